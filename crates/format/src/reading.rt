@@ -1,0 +1,69 @@
+// Reading: what stands at the start of a slice of words, for every format.
+ghost use mathlib.Core.Path.{_≡_};
+ghost use Rattle.format.specs.Meaning.{in-range, seen, slots-hold, read-head};
+ghost use Rattle.format.specs.Laws.{Readings};
+use crate::checks::extent;
+use crate::checks::holds;
+use crate::things::Format;
+use crate::things::Head;
+use crate::things::Shape;
+
+const SMALLEST_ADDRESS: u32 = 256;
+const LONGEST_OBJECT: usize = 128;
+const LONGEST_PADDING: usize = 256;
+
+// Whether what a head says is in range.
+fn is_in_range<F: Format>(format: &F, head: Head) -> bool
+    ensures { λ r. ⌜ r ≡ in-range (F·Format .meaning (now (format .entry))) head ⌝ }
+{
+    match head {
+        Head::Nothing => false,
+        Head::Object(shape) => format.admits(shape),
+        Head::Forwarded { size, to } => {
+            1 <= size && size <= LONGEST_OBJECT && SMALLEST_ADDRESS <= to && to <= format.address_limit()
+        }
+        Head::Padding { size } => 1 <= size && size <= LONGEST_PADDING,
+    }
+}
+
+// What stands at the start of the words, by its head alone, in constant time.
+pub fn look<F: Format>(format: &F, words: &[u32]) -> Head
+    ensures { λ r. ⌜ r ≡ seen (F·Format .meaning (now (format .entry))) (now (words .entry)) ⌝ }
+{
+    let head = format.head(words);
+    if is_in_range(format, head) && extent(format, head) <= words.len() {
+        head
+    } else {
+        Head::Nothing
+    }
+}
+
+// Whether each slot of an object holds what it may.
+fn object_holds<F: Format>(format: &F, words: &[u32], shape: Shape) -> bool
+    ensures { λ r. ⌜ r ≡ slots-hold (F·Format .meaning (now (format .entry))) (now (words .entry)) (Head.Object shape) ⌝ }
+{
+    for i in 0..shape.n {
+        if !holds(format, shape, i, format.slot(words, shape, i)) {
+            return false;
+        }
+    }
+    true
+}
+
+fn slots_hold<F: Format>(format: &F, words: &[u32], head: Head) -> bool
+    ensures { λ r. ⌜ r ≡ slots-hold (F·Format .meaning (now (format .entry))) (now (words .entry)) head ⌝ }
+{
+    match head {
+        Head::Object(shape) => object_holds(format, words, shape),
+        Head::Nothing | Head::Forwarded { .. } | Head::Padding { .. } => true,
+    }
+}
+
+// What stands at the start of the words, with every slot of it looked at.
+pub fn read<F: Format>(format: &F, words: &[u32]) -> Head
+    ensures answer { λ r. ⌜ r ≡ read-head (F·Format .meaning (now (format .entry))) (now (words .entry)) ⌝ }
+    ensures laws { λ _. ⌜ Readings (F·Format .meaning (now (format .entry))) ⌝ }
+{
+    let head = look(format, words);
+    if slots_hold(format, words, head) { head } else { Head::Nothing }
+}
