@@ -1,3 +1,4 @@
 pub mod Slots
 pub mod Heads
 pub mod Memory
+pub mod Enough

@@ -15,7 +15,7 @@ use Rattle.format.specs.declared.things.Shape.{Shape}
 use Rattle.format.specs.declared.things.Head.{Head}
 use Rattle.format.specs.declared.things.Head.the-variants.{Nothing, Object, Forwarded, Padding}
 use Rattle.format.specs.declared.things.Slot.{Slot}
-use Rattle.format.specs.Meaning.{Meaning, shape, holds, blanks, extent, in-range, Thing, nothing, object, forwarded, padding, reads, at, span}
+use Rattle.format.specs.Meaning.{Meaning, shape, holds, blanks, extent, in-range, Thing, nothing, object, forwarded, padding, reads, thing-at, span}
 use Rattle.format.specs.Laws.{Makes, Lawful, Leaves, part, rewritten, Readings}
 use Rattle.format.proofs.Heads.{Read, Object-read, not-nothing, read-back, span-read, object-read, object-slot, object-holds}
 
@@ -86,19 +86,19 @@ module _ (m : Meaning) (w : Lawful m) where
       long = length-put a k xs ys f l;
       words = getD-put-outside a k xs ys f l;
       elsewhere = λ b y o. elim o [
-          inl p ↦ w .own (drop b xs) (drop b (putMid a k xs ys)) y (part-before a k xs ys f l b (span m (at m xs b)) p)
+          inl p ↦ w .own (drop b xs) (drop b (putMid a k xs ys)) y (part-before a k xs ys f l b (span m (thing-at m xs b)) p)
         | inr p ↦ ap (reads m) (drop-putMid a k xs ys b p (omega arith) l)
         ]
     }
 
-  module _ (xs : List ℕ) (a l : ℕ) (ss : List Slot) (e : at m xs a ≡ object l ss) where
-    stands : at m xs a ≢ nothing
+  module _ (xs : List ℕ) (a l : ℕ) (ss : List Slot) (e : thing-at m xs a ≡ object l ss) where
+    stands : thing-at m xs a ≢ nothing
     stands d = not-nothing l ss (sym e ∙ d)
 
     abbrev size : ℕ
     size = m .size (shape l (length ss))
 
-    spans : span m (at m xs a) ≡ size
+    spans : span m (thing-at m xs a) ≡ size
     spans = ap (span m) e
 
     inside : a + size ≤ length xs

@@ -124,8 +124,8 @@ abbrev pub reads : Meaning → List ℕ → Thing
 reads m ws = thing (λ s. m .slot s ws) (read-head m ws)
 
 -- what stands at a base in a memory
-abbrev pub at : Meaning → List ℕ → ℕ → Thing
-at m xs a = reads m (drop a xs)
+abbrev pub thing-at : Meaning → List ℕ → ℕ → Thing
+thing-at m xs a = reads m (drop a xs)
 
 -- how many words it takes
 abbrev pub span : Meaning → Thing → ℕ

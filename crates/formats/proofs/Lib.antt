@@ -1,0 +1,4 @@
+mod Stamps
+mod Coded
+mod Counts
+mod Tags
