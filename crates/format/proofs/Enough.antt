@@ -20,7 +20,7 @@ use Rattle.format.specs.declared.things.Kind.the-variants.{References, Numbers
 use Rattle.format.specs.Meaning.{Meaning, shape, may-hold, holds, blank, blanks, extent, in-range, Thing, nothing, object, forwarded, padding, thing, reads, span}
 use Rattle.format.specs.Laws.{Makes, Lawful}
 use Rattle.format.proofs.Slots.{same-map, all-decides}
-use Rattle.format.proofs.Heads.{slots-of, Read, reads-is, read-back, span-read, object-reads, Object-read, object-read, object-slot, object-holds}
+use Rattle.format.proofs.Heads.{slots-of, range-allowed, range-extent, range-from, Read, reads-is, read-back, span-read, object-reads, Object-read, object-read, object-slot, object-holds}
 
 -- two lists of words that agree in the first k
 abbrev pub Alike : ℕ → List ℕ → List ℕ → Type 0
@@ -82,31 +82,32 @@ module _ (m : Meaning) (w : Enough m) where
   slots-too ws vs (Forwarded k to) r e f a = record { head = e; range = r .range; fits = f; slots = refl }
   slots-too ws vs (Padding k) r e f a = record { head = e; range = r .range; fits = f; slots = refl }
 
-  some-extent : (h : Head) → in-range m h ≡ true → 1 ≤ extent m h
-  some-extent Nothing e = absurd (let z : _≡_ {A = ℕ} 0 1 = cc in omega arith)
-  some-extent (Object s) e = w .ranges s e .2
-  some-extent (Forwarded k to) e =
-      leb-true 1 k (and-parts (leb 1 k) (leb k 128) (and-parts (leb 1 k && leb k 128) (leb 256 to && leb to (m .greatest-address)) e .0) .0)
-  some-extent (Padding k) e = leb-true 1 k (and-parts (leb 1 k) (leb k 256) e .0)
-
   own : (ws vs : List ℕ) → reads m ws ≢ nothing → take (span m (reads m ws)) vs ≡ take (span m (reads m ws)) ws → reads m vs ≡ reads m ws
   own ws vs x t =
       let r = read-back m ws x in
       let e : take (extent m (m .head ws)) vs ≡ take (extent m (m .head ws)) ws = rw (span-read m ws x) at t in
       let a = alike (extent m (m .head ws)) ws vs e in
       let f = longer (extent m (m .head ws)) ws vs (r .fits) e in
-      let h = w .own-head ws vs (some-extent (m .head ws) (r .range)) a in
+      let h = w .own-head ws vs (range-extent m (m .head ws) (r .range) .0) a in
       reads-is m vs (m .head ws) (slots-too ws vs (m .head ws) r h f a)
       ∙ same-reading ws vs (m .head ws) r h f a
       ∙ sym (reads-is m ws (m .head ws) r)
 
   -- ---- writes
 
+  shape-range : (s : Shape) → m .admits s ≡ true → in-range m (Object s) ≡ true
+  shape-range s a =
+      let r = w .ranges s a in
+      range-from m (Object s) (and-from _ _ a (and-from _ _ (le-leb _ _ (r .0)) (le-leb _ _ (r .1)))) (r .2) (r .3)
+
+  range-shape : (s : Shape) → in-range m (Object s) ≡ true → m .admits s ≡ true
+  range-shape s e = and-parts (m .admits s) _ (range-allowed m (Object s) e) .0
+
   makes : (s : Shape) (ws : List ℕ) → m .admits s ≡ true → length ws ≡ m .size s → Makes m (object (s .layout) (blanks m s)) ws (m .made s ws)
   makes s ws a l =
       (w .made-length s ws,
        object-is (m .made s ws) s
-         (object-reads m (m .made s ws) s (w .made-head s ws a l) a (omega (arith, w .made-length s ws))
+         (object-reads m (m .made s ws) s (w .made-head s ws a l) (shape-range s a) (omega (arith, w .made-length s ws))
            (λ i b. rw (w .made-slot s ws a l i b) (blank-held m (m .kind s i))))
        ∙ ap (object (s .layout)) (same-map (blank Both) (m .slot s (m .made s ws)) (λ i. blank (m .kind s i)) (s .n) (w .made-slot s ws a l)))
 
@@ -139,11 +140,12 @@ module _ (m : Meaning) (w : Enough m) where
 
     forwards : (to : ℕ) → 256 ≤ to → to ≤ m .greatest-address → Makes m (forwarded (length ws) to) ws (m .forwarding to ws)
     forwards to b h =
-        let r = w .ranges sh (was .read .range) in
+        let a = range-shape sh (was .read .range) in
+        let r = w .ranges sh a in
         (w .forward-length to ws,
          reads-is m (m .forwarding to ws) (Forwarded (length ws) to) (record {
-           head = w .forward-head sh to ws (was .read .head) z (was .read .range) b h;
-           range = and-from _ _ (and-from _ _ (le-leb 1 (length ws) (omega arith)) (le-leb (length ws) 128 (omega arith))) (and-from _ _ (le-leb 256 to b) (le-leb to _ h));
+           head = w .forward-head sh to ws (was .read .head) z a b h;
+           range = range-from m (Forwarded (length ws) to) (and-from _ _ (le-leb 256 to b) (le-leb to _ h)) (omega arith) (omega arith);
            fits = omega (arith, w .forward-length to ws);
            slots = refl
          }))
@@ -153,14 +155,13 @@ module _ (m : Meaning) (w : Enough m) where
       (w .pad-length ws,
        reads-is m (m .padded ws) (Padding (length ws)) (record {
          head = w .pad-head ws a b;
-         range = and-from _ _ (le-leb 1 (length ws) a) (le-leb (length ws) 256 b);
+         range = range-from m (Padding (length ws)) refl a b;
          fits = omega (arith, w .pad-length ws);
          slots = refl
        }))
 
   pub lawful-from : Lawful m
   lawful-from = record {
-      ranges = w .ranges;
       own = own;
       makes = makes;
       sets = λ ws l ss i x e z b h. sets ws l ss e z i x b h;

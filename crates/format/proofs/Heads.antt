@@ -14,7 +14,7 @@ use Rattle.format.specs.declared.things.Shape.{Shape}
 use Rattle.format.specs.declared.things.Head.{Head}
 use Rattle.format.specs.declared.things.Head.the-variants.{Nothing, Object, Forwarded, Padding}
 use Rattle.format.specs.declared.things.Slot.{Slot}
-use Rattle.format.specs.Meaning.{Meaning, shape, holds, extent, in-range, within, seen, slots-hold, all-below, read-head, Thing, nothing, object, forwarded, padding, thing, reads, span}
+use Rattle.format.specs.Meaning.{Meaning, shape, holds, extent, allowed, longest, in-range, within, seen, slots-hold, all-below, read-head, Thing, nothing, object, forwarded, padding, thing, reads, span}
 use Rattle.format.specs.Laws.{Lawful}
 use Rattle.format.proofs.Slots.{all-decides}
 
@@ -31,6 +31,34 @@ span-thing m f Nothing = refl
 span-thing m f (Object s) = ap (λ k. m .size (shape (s .layout) k)) (length-map-counting (f s) 0 (s .n))
 span-thing m f (Forwarded k to) = refl
 span-thing m f (Padding k) = refl
+
+pub longest-few : (h : Head) → longest h ≤ 256
+longest-few Nothing = omega arith
+longest-few (Object s) = omega arith
+longest-few (Forwarded k to) = omega arith
+longest-few (Padding k) = omega arith
+
+-- the two parts of a head's range
+module _ (m : Meaning) (h : Head) where
+  pub range-allowed : in-range m h ≡ true → allowed m h ≡ true
+  range-allowed e = and-parts (allowed m h) _ e .0
+
+  pub range-extent : in-range m h ≡ true → (1 ≤ extent m h) × (extent m h ≤ longest h)
+  range-extent e =
+      let p = and-parts (leb 1 (extent m h)) (leb (extent m h) (longest h)) (and-parts (allowed m h) _ e .1) in
+      (leb-true _ _ (p .0), leb-true _ _ (p .1))
+
+  pub range-from : allowed m h ≡ true → 1 ≤ extent m h → extent m h ≤ longest h → in-range m h ≡ true
+  range-from a b c = and-from _ _ a (and-from _ _ (le-leb _ _ b) (le-leb _ _ c))
+
+  pub range-some : in-range m h ≡ true → h ≢ Nothing
+  range-some e d = let r = range-extent e in omega (arith, r, ap (extent m) d)
+
+pub thing-some : (f : Shape → ℕ → Slot) (h : Head) → h ≢ Nothing → thing f h ≢ nothing
+thing-some f Nothing x e = x refl
+thing-some f (Object s) x e = not-nothing (s .layout) (map (f s) (counting 0 (s .n))) e
+thing-some f (Forwarded k to) x e = let z : _≡_ {A = ℕ} 0 1 = cc in omega arith
+thing-some f (Padding k) x e = let z : _≡_ {A = ℕ} 0 1 = cc in omega arith
 
 -- what a reading that is a thing says of the head and the slots
 pub record Read (m : Meaning) (ws : List ℕ) (h : Head) : Type 0 where
@@ -51,7 +79,7 @@ module _ (m : Meaning) (ws : List ℕ) where
       let t : slots-hold m ws (seen m ws) ≡ true = rw o (r .slots) in
       ap (thing (λ s. m .slot s ws)) (cond-true (slots-hold m ws (seen m ws)) (seen m ws) Nothing t ∙ o)
 
-  pub object-reads : (s : Shape) → m .head ws ≡ Object s → m .admits s ≡ true → m .size s ≤ length ws → ((i : ℕ) → i < s .n → holds m s i (m .slot s ws i) ≡ true)
+  pub object-reads : (s : Shape) → m .head ws ≡ Object s → in-range m (Object s) ≡ true → m .size s ≤ length ws → ((i : ℕ) → i < s .n → holds m s i (m .slot s ws i) ≡ true)
       → Read m ws (Object s)
   object-reads s e a f h = record {
       head = e;
@@ -62,28 +90,40 @@ module _ (m : Meaning) (ws : List ℕ) where
 
   -- ---- and back
 
-  nothing-from : read-head m ws ≡ Nothing → reads m ws ≡ nothing
-  nothing-from e = ap (thing (λ s. m .slot s ws)) e
-
   unseen : seen m ws ≡ Nothing → read-head m ws ≡ Nothing
   unseen e = rw e refl
 
-  pub read-back : reads m ws ≢ nothing → Read m ws (m .head ws)
-  read-back x =
+  -- the head that is read is none, or the thing's own
+  pub head-cases : (read-head m ws ≡ Nothing) ⊎ ((read-head m ws ≡ m .head ws) × Read m ws (m .head ws))
+  head-cases =
       elim (cases-bool (within m (length ws) (m .head ws))) [
         inl t ↦ (
           let o : seen m ws ≡ m .head ws = cond-true (within m (length ws) (m .head ws)) (m .head ws) Nothing t in
           let p = and-parts (in-range m (m .head ws)) (leb (extent m (m .head ws)) (length ws)) t in
           elim (cases-bool (slots-hold m ws (seen m ws))) [
-            inl k ↦ record {
+            inl k ↦ inr (cond-true (slots-hold m ws (seen m ws)) (seen m ws) Nothing k ∙ o, record {
               head = refl;
               range = p .0;
               fits = leb-true _ _ (p .1);
               slots = rw o at k
-            }
-          | inr k ↦ absurd (x (nothing-from (cond-false (slots-hold m ws (seen m ws)) (seen m ws) Nothing k)))
+            })
+          | inr k ↦ inl (cond-false (slots-hold m ws (seen m ws)) (seen m ws) Nothing k)
           ])
-      | inr f ↦ absurd (x (nothing-from (unseen (cond-false (within m (length ws) (m .head ws)) (m .head ws) Nothing f))))
+      | inr f ↦ inl (unseen (cond-false (within m (length ws) (m .head ws)) (m .head ws) Nothing f))
+      ]
+
+  pub nothing-from : read-head m ws ≡ Nothing → reads m ws ≡ nothing
+  nothing-from e = ap (thing (λ s. m .slot s ws)) e
+
+  pub read-back : reads m ws ≢ nothing → Read m ws (m .head ws)
+  read-back x = elim head-cases [ inl e ↦ absurd (x (nothing-from e)) | inr r ↦ r .1 ]
+
+  -- a head that is read takes a word at least, and lies within the words
+  pub head-inside : read-head m ws ≢ Nothing → (1 ≤ extent m (read-head m ws)) × (extent m (read-head m ws) ≤ length ws)
+  head-inside x =
+      elim head-cases [
+        inl e ↦ absurd (x e)
+      | inr r ↦ rw (r .0) (range-extent m (m .head ws) (r .1 .range) .0, r .1 .fits)
       ]
 
   pub span-read : reads m ws ≢ nothing → span m (reads m ws) ≡ extent m (m .head ws)

@@ -5,19 +5,20 @@ use mathlib.Core.Bool.{Bool, true, false, cond, _&&_}
 use mathlib.Core.List.{List, [], _∷_, _++_}
 use Prim.Native.Nat.{ℕ, _+_, _-_, _≤_, _<_}
 use native.Mathlib.Omega.{arith}
-use lib.ListN.{length, getD, set, take, drop}
+use lib.ListN.{length, getD, set, take, drop, replicate}
 use lib.Dec.{leb}
 use borrow.Rule.Slice.PartMut.{putMid}
 use Rattle.std.proofs.shelf.Tests.{and-parts, leb-true}
-use Rattle.std.proofs.shelf.Lists.{length-take-le, length-drop, length-append, length-set, getD-take, getD-drop, getD-append-left, getD-append-right, drop-at, take-at, take-all, take-take, take-append-le, drop-append-le, take-append-drop}
+use Rattle.std.proofs.shelf.Lists.{length-replicate, length-take-le, length-drop, length-append, length-set, getD-take, getD-drop, getD-append-left, getD-append-right, drop-at, take-at, take-all, take-take, take-append-le, drop-append-le, take-append-drop}
+use Rattle.std.proofs.shelf.Counted.{length-map-counting}
 use Rattle.std.proofs.shelf.Parts.{drop-putMid}
 use Rattle.format.specs.declared.things.Shape.{Shape}
 use Rattle.format.specs.declared.things.Head.{Head}
 use Rattle.format.specs.declared.things.Head.the-variants.{Nothing, Object, Forwarded, Padding}
 use Rattle.format.specs.declared.things.Slot.{Slot}
-use Rattle.format.specs.Meaning.{Meaning, shape, holds, blanks, extent, in-range, Thing, nothing, object, forwarded, padding, reads, thing-at, span}
+use Rattle.format.specs.Meaning.{Meaning, shape, holds, blank, blanks, extent, in-range, Thing, nothing, object, forwarded, padding, reads, thing-at, span}
 use Rattle.format.specs.Laws.{Makes, Lawful, Leaves, part, rewritten, Readings}
-use Rattle.format.proofs.Heads.{Read, Object-read, not-nothing, read-back, span-read, object-read, object-slot, object-holds}
+use Rattle.format.proofs.Heads.{longest-few, range-allowed, range-extent, Read, Object-read, not-nothing, read-back, span-read, object-read, object-slot, object-holds}
 
 -- ---- lists
 
@@ -54,22 +55,12 @@ module _ (a k : ℕ) (xs ys : List ℕ) (fits : a + k ≤ length xs) (long : len
 -- ---- things
 
 module _ (m : Meaning) (w : Lawful m) where
-  -- what is known of a head that is in range
-  range-extent : (h : Head) → in-range m h ≡ true → (1 ≤ extent m h) × (extent m h ≤ 256)
-  range-extent Nothing e = absurd (let z : _≡_ {A = ℕ} 0 1 = cc in omega arith)
-  range-extent (Object s) e = let r = w .ranges s e in (r .2, omega arith)
-  range-extent (Forwarded k to) e =
-      let p = and-parts (leb 1 k) (leb k 128) (and-parts (leb 1 k && leb k 128) (leb 256 to && leb to (m .greatest-address)) e .0) in
-      (leb-true 1 k (p .0), omega (arith, leb-true k 128 (p .1)))
-  range-extent (Padding k) e =
-      let p = and-parts (leb 1 k) (leb k 256) e in (leb-true 1 k (p .0), leb-true k 256 (p .1))
-
   pub thing-spans : (ws : List ℕ) → reads m ws ≢ nothing → (1 ≤ span m (reads m ws)) × (span m (reads m ws) ≤ 256) × (span m (reads m ws) ≤ length ws)
   thing-spans ws x =
       let r = read-back m ws x in
       let e = span-read m ws x in
-      let q = range-extent (m .head ws) (r .range) in
-      (omega (arith, e, q .0), omega (arith, e, q .1), omega (arith, e, r .fits))
+      let q = range-extent m (m .head ws) (r .range) in
+      (omega (arith, e, q .0), omega (arith, e, q .1, longest-few (m .head ws)), omega (arith, e, r .fits))
 
   -- a thing's own words read as the memory does there
   pub own-part : (k : ℕ) (ws : List ℕ) → reads m ws ≢ nothing → span m (reads m ws) ≡ k → reads m (take k ws) ≡ reads m ws
@@ -123,13 +114,29 @@ module _ (m : Meaning) (w : Lawful m) where
         leaves xs a size (forwarded size to) _ inside (r .0 ∙ own-length) (r .1 ∙ ap (λ k. forwarded k to) own-length)
         (λ d. let z : _≡_ {A = ℕ} 0 1 = cc in omega arith)
 
+  object-sizes : (s : Shape) → in-range m (Object s) ≡ true → (s .layout ≤ 255) × (s .n ≤ 255) × (1 ≤ m .size s) × (m .size s ≤ 128)
+  object-sizes s e =
+      let p = and-parts (leb (s .layout) 255) (leb (s .n) 255) (and-parts (m .admits s) _ (range-allowed m (Object s) e) .1) in
+      let q = range-extent m (Object s) e in
+      (leb-true _ _ (p .0), leb-true _ _ (p .1), q .0, q .1)
+
+  -- an admitted object can be made, so its shape is in range
+  sizes : (s : Shape) → m .admits s ≡ true → (s .layout ≤ 255) × (s .n ≤ 255) × (1 ≤ m .size s) × (m .size s ≤ 128)
+  sizes s a =
+      let ws = replicate (m .size s) 0 in
+      let r = w .makes s ws a (length-replicate {A = ℕ} (m .size s) 0) in
+      let o = object-read m (m .made s ws) (s .layout) (blanks m s) (r .1) in
+      let k : length (blanks m s) ≡ s .n = length-map-counting (λ i. blank (m .kind s i)) 0 (s .n) in
+      object-sizes s (subst (λ (n : ℕ). in-range m (Object (shape (s .layout) n)) ≡ true) k (o .read .range))
+
   pub readings : Readings m
   readings = record {
       own = λ xs ys a b x e. w .own (drop a xs) (drop b ys) x e;
       spans = λ xs a x. (let t = thing-spans (drop a xs) x in (t .0, t .1, omega (arith, t, length-drop a xs)));
       admits = λ xs a l ss e.
         (let r = object-read m (drop a xs) l ss e in
-        (r .read .range, λ i d b. rw (object-slot m (drop a xs) l ss r i d b) (object-holds m (drop a xs) l ss r i b)));
+        (and-parts (m .admits (shape l (length ss))) _ (range-allowed m (Object (shape l (length ss))) (r .read .range)) .0, λ i d b. rw (object-slot m (drop a xs) l ss r i d b) (object-holds m (drop a xs) l ss r i b)));
+      sizes = sizes;
       makes = λ xs a s h f.
         (let n : length (part a (m .size s) xs) ≡ m .size s = length-take-le (m .size s) (drop a xs) (omega (arith, length-drop a xs)) in
         let r = w .makes s (part a (m .size s) xs) h n in

@@ -15,8 +15,6 @@ abbrev pub Makes : Meaning → Thing → List ℕ → List ℕ → Type 0
 Makes m t old new = (length new ≡ length old) × (reads m new ≡ t)
 
 pub record Lawful (m : Meaning) : Type 0 where
-  -- an admitted layout and n are at most 255, and the object takes 1 to 128 words
-  pub ranges : (s : Shape) → m .admits s ≡ true → (s .layout ≤ 255) × (s .n ≤ 255) × (1 ≤ m .size s) × (m .size s ≤ 128)
   -- Reading depends on the thing's own words alone.
   pub own : (ws vs : List ℕ) → reads m ws ≢ nothing → take (span m (reads m ws)) vs ≡ take (span m (reads m ws)) ws → reads m vs ≡ reads m ws
   -- Making an admitted object gives that object, each slot null where it may refer, else 0.
@@ -56,6 +54,8 @@ pub record Readings (m : Meaning) : Type 0 where
   -- What reads as an object has an admitted shape, and each slot holds what it may.
   pub admits : (xs : List ℕ) (a l : ℕ) (ss : List Slot) → thing-at m xs a ≡ object l ss
     → (m .admits (shape l (length ss)) ≡ true) × ((i : ℕ) (x : Slot) → i < length ss → holds m (shape l (length ss)) i (getD ss i x) ≡ true)
+  -- An admitted layout and number of slots are at most 255, and the object takes 1 to 128 words.
+  pub sizes : (s : Shape) → m .admits s ≡ true → (s .layout ≤ 255) × (s .n ≤ 255) × (1 ≤ m .size s) × (m .size s ≤ 128)
   -- Making, setting a slot, forwarding and padding, anywhere in the memory.
   pub makes : (xs : List ℕ) (a : ℕ) (s : Shape) → m .admits s ≡ true → a + m .size s ≤ length xs
     → Leaves m xs a (m .size s) (object (s .layout) (blanks m s)) (rewritten (m .made s) a (m .size s) xs)

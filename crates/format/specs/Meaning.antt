@@ -73,13 +73,23 @@ extent m (Object s) = m .size s
 extent m (Forwarded k to) = k
 extent m (Padding k) = k
 
--- An object has an admitted shape; a forwarded thing takes 1 to 128 words and has gone to an
--- address from 256 to the greatest; a padding takes 1 to 256 words.
+-- An object has an admitted shape, whose layout and number of slots are at most 255; what was
+-- forwarded has gone to an address from 256 to the greatest.
+abbrev pub allowed : Meaning → Head → Bool
+allowed m Nothing = false
+allowed m (Object s) = m .admits s && (leb (s .layout) 255 && leb (s .n) 255)
+allowed m (Forwarded k to) = leb 256 to && leb to (m .greatest-address)
+allowed m (Padding k) = true
+
+-- Objects take 1 to 128 words, forwarded or not, and paddings 1 to 256.
+abbrev pub longest : Head → ℕ
+longest Nothing = 0
+longest (Object s) = 128
+longest (Forwarded k to) = 128
+longest (Padding k) = 256
+
 abbrev pub in-range : Meaning → Head → Bool
-in-range m Nothing = false
-in-range m (Object s) = m .admits s
-in-range m (Forwarded k to) = (leb 1 k && leb k 128) && (leb 256 to && leb to (m .greatest-address))
-in-range m (Padding k) = leb 1 k && leb k 256
+in-range m h = allowed m h && (leb 1 (extent m h) && leb (extent m h) (longest h))
 
 abbrev pub within : Meaning → ℕ → Head → Bool
 within m len h = in-range m h && leb (extent m h) len

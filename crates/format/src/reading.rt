@@ -1,6 +1,6 @@
 // Reading: what stands at the start of a slice of words, for every format.
 ghost use mathlib.Core.Path.{_≡_};
-ghost use Rattle.format.specs.Meaning.{in-range, seen, slots-hold, read-head};
+ghost use Rattle.format.specs.Meaning.{allowed, longest, seen, slots-hold, read-head};
 ghost use Rattle.format.specs.Laws.{Readings};
 use crate::checks::extent;
 use crate::checks::holds;
@@ -12,17 +12,26 @@ const SMALLEST_ADDRESS: u32 = 256;
 const LONGEST_OBJECT: usize = 128;
 const LONGEST_PADDING: usize = 256;
 
-// Whether what a head says is in range.
-fn is_in_range<F: Format>(format: &F, head: Head) -> bool
-    ensures { λ r. ⌜ r ≡ in-range (F·Format .meaning (now (format .entry))) head ⌝ }
+// Whether there may be such a thing, its size aside.
+fn is_allowed<F: Format>(format: &F, head: Head) -> bool
+    ensures { λ r. ⌜ r ≡ allowed (F·Format .meaning (now (format .entry))) head ⌝ }
 {
     match head {
         Head::Nothing => false,
         Head::Object(shape) => format.admits(shape),
-        Head::Forwarded { size, to } => {
-            1 <= size && size <= LONGEST_OBJECT && SMALLEST_ADDRESS <= to && to <= format.address_limit()
-        }
-        Head::Padding { size } => 1 <= size && size <= LONGEST_PADDING,
+        Head::Forwarded { to, .. } => SMALLEST_ADDRESS <= to && to <= format.address_limit(),
+        Head::Padding { .. } => true,
+    }
+}
+
+// The most words that such a thing takes.
+fn longest_of(head: Head) -> usize
+    ensures { λ r. ⌜ r ≡ longest head ⌝ }
+{
+    match head {
+        Head::Nothing => 0,
+        Head::Object(_) | Head::Forwarded { .. } => LONGEST_OBJECT,
+        Head::Padding { .. } => LONGEST_PADDING,
     }
 }
 
@@ -31,7 +40,8 @@ pub fn look<F: Format>(format: &F, words: &[u32]) -> Head
     ensures { λ r. ⌜ r ≡ seen (F·Format .meaning (now (format .entry))) (now (words .entry)) ⌝ }
 {
     let head = format.head(words);
-    if is_in_range(format, head) && extent(format, head) <= words.len() {
+    let size = extent(format, head);
+    if is_allowed(format, head) && 1 <= size && size <= longest_of(head) && size <= words.len() {
         head
     } else {
         Head::Nothing

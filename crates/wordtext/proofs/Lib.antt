@@ -1,0 +1,4 @@
+pub mod Counts
+pub mod Numerals
+pub mod Pieces
+pub mod Printed
