@@ -35,14 +35,14 @@ pub record Enough (m : Meaning) : Type 0 where
   pub made-slot : (s : Shape) (ws : List ℕ) → m .admits s ≡ true → length ws ≡ m .size s → (i : ℕ) → i < s .n → m .slot s (m .made s ws) i ≡ blank (m .kind s i)
   pub set-length : (s : Shape) (i : ℕ) (x : Slot) (ws : List ℕ) → length (m .with-slot s i x ws) ≡ length ws
   pub set-head : (s : Shape) (i : ℕ) (x : Slot) (ws : List ℕ) → m .head ws ≡ Object s → length ws ≡ m .size s → i < s .n → holds m s i x ≡ true
-    → m .head (m .with-slot s i x ws) ≡ Object s
+      → m .head (m .with-slot s i x ws) ≡ Object s
   pub set-same : (s : Shape) (i : ℕ) (x : Slot) (ws : List ℕ) → m .head ws ≡ Object s → length ws ≡ m .size s → i < s .n → holds m s i x ≡ true
-    → m .slot s (m .with-slot s i x ws) i ≡ x
+      → m .slot s (m .with-slot s i x ws) i ≡ x
   pub set-other : (s : Shape) (i : ℕ) (x : Slot) (ws : List ℕ) → m .head ws ≡ Object s → length ws ≡ m .size s → i < s .n → holds m s i x ≡ true
-    → (j : ℕ) → j < s .n → j ≢ i → m .slot s (m .with-slot s i x ws) j ≡ m .slot s ws j
+      → (j : ℕ) → j < s .n → j ≢ i → m .slot s (m .with-slot s i x ws) j ≡ m .slot s ws j
   pub forward-length : (to : ℕ) (ws : List ℕ) → length (m .forwarding to ws) ≡ length ws
   pub forward-head : (s : Shape) (to : ℕ) (ws : List ℕ) → m .head ws ≡ Object s → length ws ≡ m .size s → m .admits s ≡ true → 256 ≤ to → to ≤ m .greatest-address
-    → m .head (m .forwarding to ws) ≡ Forwarded (length ws) to
+      → m .head (m .forwarding to ws) ≡ Forwarded (length ws) to
   pub pad-length : (ws : List ℕ) → length (m .padded ws) ≡ length ws
   pub pad-head : (ws : List ℕ) → 1 ≤ length ws → length ws ≤ 256 → m .head (m .padded ws) ≡ Padding (length ws)
 
@@ -104,12 +104,13 @@ module _ (m : Meaning) (w : Enough m) where
   range-shape s e = and-parts (m .admits s) _ (range-allowed m (Object s) e) .0
 
   makes : (s : Shape) (ws : List ℕ) → m .admits s ≡ true → length ws ≡ m .size s → Makes m (object (s .layout) (blanks m s)) ws (m .made s ws)
-  makes s ws a l =
-      (w .made-length s ws,
-       object-is (m .made s ws) s
-         (object-reads m (m .made s ws) s (w .made-head s ws a l) (shape-range s a) (omega (arith, w .made-length s ws))
-           (λ i b. rw (w .made-slot s ws a l i b) (blank-held m (m .kind s i))))
-       ∙ ap (object (s .layout)) (same-map (blank Both) (m .slot s (m .made s ws)) (λ i. blank (m .kind s i)) (s .n) (w .made-slot s ws a l)))
+  makes s ws a l = (
+    w .made-length s ws,
+    object-is (m .made s ws) s
+        (object-reads m (m .made s ws) s (w .made-head s ws a l) (shape-range s a) (omega (arith, w .made-length s ws))
+        (λ i b. rw (w .made-slot s ws a l i b) (blank-held m (m .kind s i))))
+        ∙ ap (object (s .layout)) (same-map (blank Both) (m .slot s (m .made s ws)) (λ i. blank (m .kind s i)) (s .n) (w .made-slot s ws a l)),
+  )
 
   module _ (ws : List ℕ) (l : ℕ) (ss : List Slot) (e : reads m ws ≡ object l ss) (z : length ws ≡ m .size (shape l (length ss))) where
     abbrev sh : Shape
@@ -123,48 +124,51 @@ module _ (m : Meaning) (w : Enough m) where
         → ((j : ℕ) → j < length ss → j ≢ i → P j (m .slot sh ws j)) → (j : ℕ) → j < length ss → P j (m .slot sh (m .with-slot sh i x ws) j)
     after-set i x b h P p q j c =
         elim (cases-eq j i) [
-          inl d ↦ rw d (rw (w .set-same sh i x ws (was .read .head) z b h) p)
-        | inr d ↦ rw (w .set-other sh i x ws (was .read .head) z b h j c d) (q j c d)
+          | inl d ↦ rw d (rw (w .set-same sh i x ws (was .read .head) z b h) p)
+          | inr d ↦ rw (w .set-other sh i x ws (was .read .head) z b h j c d) (q j c d)
         ]
 
     sets : (i : ℕ) (x : Slot) → i < length ss → holds m sh i x ≡ true → Makes m (object l (set ss i x)) ws (m .with-slot sh i x ws)
     sets i x b h =
-        let new = m .with-slot sh i x ws in
-        (w .set-length sh i x ws,
-         object-is new sh
-           (object-reads m new sh (w .set-head sh i x ws (was .read .head) z b h) (was .read .range) (omega (arith, w .set-length sh i x ws))
-             (after-set i x b h (λ j v. holds m sh j v ≡ true) h (λ j c d. object-holds m ws l ss was j c)))
-         ∙ ap (object l) (sym (fill-by-all (m .slot sh new) (set ss i x) (length ss) x (length-set ss i x)
-             (after-set i x b h (λ j v. getD (set ss i x) j x ≡ v) (getD-set-same ss i x x b)
-               (λ j c d. getD-set-other ss i j x x d ∙ object-slot m ws l ss was j x c)))))
+        let new = m .with-slot sh i x ws in (
+          w .set-length sh i x ws,
+          object-is new sh
+              (object-reads m new sh (w .set-head sh i x ws (was .read .head) z b h) (was .read .range) (omega (arith, w .set-length sh i x ws))
+              (after-set i x b h (λ j v. holds m sh j v ≡ true) h (λ j c d. object-holds m ws l ss was j c)))
+              ∙ ap (object l) (sym (fill-by-all (m .slot sh new) (set ss i x) (length ss) x (length-set ss i x)
+              (after-set i x b h (λ j v. getD (set ss i x) j x ≡ v) (getD-set-same ss i x x b)
+              (λ j c d. getD-set-other ss i j x x d ∙ object-slot m ws l ss was j x c)))),
+        )
 
     forwards : (to : ℕ) → 256 ≤ to → to ≤ m .greatest-address → Makes m (forwarded (length ws) to) ws (m .forwarding to ws)
     forwards to b h =
         let a = range-shape sh (was .read .range) in
-        let r = w .ranges sh a in
-        (w .forward-length to ws,
-         reads-is m (m .forwarding to ws) (Forwarded (length ws) to) (record {
-           head = w .forward-head sh to ws (was .read .head) z a b h;
-           range = range-from m (Forwarded (length ws) to) (and-from _ _ (le-leb 256 to b) (le-leb to _ h)) (omega arith) (omega arith);
-           fits = omega (arith, w .forward-length to ws);
-           slots = refl
-         }))
+        let r = w .ranges sh a in (
+          w .forward-length to ws,
+          reads-is m (m .forwarding to ws) (Forwarded (length ws) to) (record {
+            head = w .forward-head sh to ws (was .read .head) z a b h;
+            range = range-from m (Forwarded (length ws) to) (and-from _ _ (le-leb 256 to b) (le-leb to _ h)) (omega arith) (omega arith);
+            fits = omega (arith, w .forward-length to ws);
+            slots = refl;
+          }),
+        )
 
   pads : (ws : List ℕ) → 1 ≤ length ws → length ws ≤ 256 → Makes m (padding (length ws)) ws (m .padded ws)
-  pads ws a b =
-      (w .pad-length ws,
-       reads-is m (m .padded ws) (Padding (length ws)) (record {
-         head = w .pad-head ws a b;
-         range = range-from m (Padding (length ws)) refl a b;
-         fits = omega (arith, w .pad-length ws);
-         slots = refl
-       }))
+  pads ws a b = (
+    w .pad-length ws,
+    reads-is m (m .padded ws) (Padding (length ws)) (record {
+      head = w .pad-head ws a b;
+      range = range-from m (Padding (length ws)) refl a b;
+      fits = omega (arith, w .pad-length ws);
+      slots = refl;
+    }),
+  )
 
   pub lawful-from : Lawful m
   lawful-from = record {
-      own = own;
-      makes = makes;
-      sets = λ ws l ss i x e z b h. sets ws l ss e z i x b h;
-      forwards = λ ws l ss to e z b h. forwards ws l ss e z to b h;
-      pads = pads
-    }
+    own = own;
+    makes = makes;
+    sets = λ ws l ss i x e z b h. sets ws l ss e z i x b h;
+    forwards = λ ws l ss to e z b h. forwards ws l ss e z to b h;
+    pads = pads;
+  }

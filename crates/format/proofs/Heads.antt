@@ -82,11 +82,11 @@ module _ (m : Meaning) (ws : List ℕ) where
   pub object-reads : (s : Shape) → m .head ws ≡ Object s → in-range m (Object s) ≡ true → m .size s ≤ length ws → ((i : ℕ) → i < s .n → holds m s i (m .slot s ws i) ≡ true)
       → Read m ws (Object s)
   object-reads s e a f h = record {
-      head = e;
-      range = a;
-      fits = f;
-      slots = all-decides (λ i. holds m s i (m .slot s ws i)) (s .n) .1 h
-    }
+    head = e;
+    range = a;
+    fits = f;
+    slots = all-decides (λ i. holds m s i (m .slot s ws i)) (s .n) .1 h;
+  }
 
   -- ---- and back
 
@@ -97,19 +97,22 @@ module _ (m : Meaning) (ws : List ℕ) where
   pub head-cases : (read-head m ws ≡ Nothing) ⊎ ((read-head m ws ≡ m .head ws) × Read m ws (m .head ws))
   head-cases =
       elim (cases-bool (within m (length ws) (m .head ws))) [
-        inl t ↦ (
-          let o : seen m ws ≡ m .head ws = cond-true (within m (length ws) (m .head ws)) (m .head ws) Nothing t in
-          let p = and-parts (in-range m (m .head ws)) (leb (extent m (m .head ws)) (length ws)) t in
-          elim (cases-bool (slots-hold m ws (seen m ws))) [
-            inl k ↦ inr (cond-true (slots-hold m ws (seen m ws)) (seen m ws) Nothing k ∙ o, record {
-              head = refl;
-              range = p .0;
-              fits = leb-true _ _ (p .1);
-              slots = rw o at k
-            })
-          | inr k ↦ inl (cond-false (slots-hold m ws (seen m ws)) (seen m ws) Nothing k)
-          ])
-      | inr f ↦ inl (unseen (cond-false (within m (length ws) (m .head ws)) (m .head ws) Nothing f))
+        | inl t ↦ (
+            let o : seen m ws ≡ m .head ws = cond-true (within m (length ws) (m .head ws)) (m .head ws) Nothing t in
+            let p = and-parts (in-range m (m .head ws)) (leb (extent m (m .head ws)) (length ws)) t in
+            elim (cases-bool (slots-hold m ws (seen m ws))) [
+              | inl k ↦ inr (
+                cond-true (slots-hold m ws (seen m ws)) (seen m ws) Nothing k ∙ o,
+                record {
+                  head = refl;
+                  range = p .0;
+                  fits = leb-true _ _ (p .1);
+                  slots = rw o at k;
+                },
+              )
+              | inr k ↦ inl (cond-false (slots-hold m ws (seen m ws)) (seen m ws) Nothing k)
+            ])
+        | inr f ↦ inl (unseen (cond-false (within m (length ws) (m .head ws)) (m .head ws) Nothing f))
       ]
 
   pub nothing-from : read-head m ws ≡ Nothing → reads m ws ≡ nothing
@@ -122,8 +125,8 @@ module _ (m : Meaning) (ws : List ℕ) where
   pub head-inside : read-head m ws ≢ Nothing → (1 ≤ extent m (read-head m ws)) × (extent m (read-head m ws) ≤ length ws)
   head-inside x =
       elim head-cases [
-        inl e ↦ absurd (x e)
-      | inr r ↦ rw (r .0) (range-extent m (m .head ws) (r .1 .range) .0, r .1 .fits)
+        | inl e ↦ absurd (x e)
+        | inr r ↦ rw (r .0) (range-extent m (m .head ws) (r .1 .range) .0, r .1 .fits)
       ]
 
   pub span-read : reads m ws ≢ nothing → span m (reads m ws) ≡ extent m (m .head ws)
@@ -149,7 +152,7 @@ module _ (m : Meaning) (ws : List ℕ) (l : ℕ) (ss : List Slot) where
       let k : s ≡ shape l (length ss) = same-shape s e in
       record {
         read = subst (λ (x : Shape). Read m ws (Object x)) k r;
-        slots = sym q ∙ ap (slots-of m ws) k
+        slots = sym q ∙ ap (slots-of m ws) k;
       }
   object-back (Forwarded k to) r e = absurd (let z : _≡_ {A = ℕ} 0 1 = cc in omega arith)
   object-back (Padding k) r e = absurd (let z : _≡_ {A = ℕ} 0 1 = cc in omega arith)

@@ -49,7 +49,7 @@ module _ (a k : ℕ) (xs ys : List ℕ) (fits : a + k ≤ length xs) (long : len
       ap (take n) (drop-append-le b (take a xs) z (omega (arith, front)))
       ∙ take-append-le n (drop b (take a xs)) z (omega (arith, front, length-drop b (take a xs)))
       ∙ sym (ap (take n) (drop-append-le b (take a xs) (drop a xs) (omega (arith, front)))
-        ∙ take-append-le n (drop b (take a xs)) (drop a xs) (omega (arith, front, length-drop b (take a xs))))
+      ∙ take-append-le n (drop b (take a xs)) (drop a xs) (omega (arith, front, length-drop b (take a xs))))
       ∙ ap (λ w. take n (drop b w)) (take-append-drop a xs)
 
 -- ---- things
@@ -73,14 +73,14 @@ module _ (m : Meaning) (w : Lawful m) where
   pub leaves : (xs : List ℕ) (a k : ℕ) (t : Thing) (ys : List ℕ) → a + k ≤ length xs → length ys ≡ k → reads m ys ≡ t → t ≢ nothing
       → Leaves m xs a k t (putMid a k xs ys)
   leaves xs a k t ys f l e x = record {
-      here = ap (reads m) (drop-put a k xs ys f l) ∙ own-front ys (drop k (drop a xs)) (λ d. x (sym e ∙ d)) ∙ e;
-      long = length-put a k xs ys f l;
-      words = getD-put-outside a k xs ys f l;
-      elsewhere = λ b y o. elim o [
-          inl p ↦ w .own (drop b xs) (drop b (putMid a k xs ys)) y (part-before a k xs ys f l b (span m (thing-at m xs b)) p)
-        | inr p ↦ ap (reads m) (drop-putMid a k xs ys b p (omega arith) l)
-        ]
-    }
+    here = ap (reads m) (drop-put a k xs ys f l) ∙ own-front ys (drop k (drop a xs)) (λ d. x (sym e ∙ d)) ∙ e;
+    long = length-put a k xs ys f l;
+    words = getD-put-outside a k xs ys f l;
+    elsewhere = λ b y o. elim o [
+      | inl p ↦ w .own (drop b xs) (drop b (putMid a k xs ys)) y (part-before a k xs ys f l b (span m (thing-at m xs b)) p)
+      | inr p ↦ ap (reads m) (drop-putMid a k xs ys b p (omega arith) l)
+    ];
+  }
 
   module _ (xs : List ℕ) (a l : ℕ) (ss : List Slot) (e : thing-at m xs a ≡ object l ss) where
     stands : thing-at m xs a ≢ nothing
@@ -131,20 +131,20 @@ module _ (m : Meaning) (w : Lawful m) where
 
   pub readings : Readings m
   readings = record {
-      own = λ xs ys a b x e. w .own (drop a xs) (drop b ys) x e;
-      spans = λ xs a x. (let t = thing-spans (drop a xs) x in (t .0, t .1, omega (arith, t, length-drop a xs)));
-      admits = λ xs a l ss e.
+    own = λ xs ys a b x e. w .own (drop a xs) (drop b ys) x e;
+    spans = λ xs a x. (let t = thing-spans (drop a xs) x in (t .0, t .1, omega (arith, t, length-drop a xs)));
+    admits = λ xs a l ss e.
         (let r = object-read m (drop a xs) l ss e in
         (and-parts (m .admits (shape l (length ss))) _ (range-allowed m (Object (shape l (length ss))) (r .read .range)) .0, λ i d b. rw (object-slot m (drop a xs) l ss r i d b) (object-holds m (drop a xs) l ss r i b)));
-      sizes = sizes;
-      makes = λ xs a s h f.
+    sizes = sizes;
+    makes = λ xs a s h f.
         (let n : length (part a (m .size s) xs) ≡ m .size s = length-take-le (m .size s) (drop a xs) (omega (arith, length-drop a xs)) in
         let r = w .makes s (part a (m .size s) xs) h n in
         leaves xs a (m .size s) (object (s .layout) (blanks m s)) _ f (r .0 ∙ n) (r .1) (not-nothing (s .layout) (blanks m s)));
-      sets = λ xs a l ss i x e b h. sets-leave xs a l ss e i x b h;
-      forwards = λ xs a l ss to e b h. forwards-leave xs a l ss e to b h;
-      pads = λ xs a k p q f.
+    sets = λ xs a l ss i x e b h. sets-leave xs a l ss e i x b h;
+    forwards = λ xs a l ss to e b h. forwards-leave xs a l ss e to b h;
+    pads = λ xs a k p q f.
         (let n : length (part a k xs) ≡ k = length-take-le k (drop a xs) (omega (arith, length-drop a xs)) in
         let r = w .pads (part a k xs) (omega arith) (omega arith) in
-        leaves xs a k (padding k) _ f (r .0 ∙ n) (r .1 ∙ ap padding n) (λ d. let z : _≡_ {A = ℕ} 0 1 = cc in omega arith))
-    }
+        leaves xs a k (padding k) _ f (r .0 ∙ n) (r .1 ∙ ap padding n) (λ d. let z : _≡_ {A = ℕ} 0 1 = cc in omega arith));
+  }

@@ -9,7 +9,9 @@ use crate::things::Head;
 use crate::things::Shape;
 
 const SMALLEST_ADDRESS: u32 = 256;
+
 const LONGEST_OBJECT: usize = 128;
+
 const LONGEST_PADDING: usize = 256;
 
 // Whether there may be such a thing, its size aside.
@@ -75,5 +77,9 @@ pub fn read<F: Format>(format: &F, words: &[u32]) -> Head
     ensures laws { λ _. ⌜ Readings (F·Format .meaning (now (format .entry))) ⌝ }
 {
     let head = look(format, words);
-    if slots_hold(format, words, head) { head } else { Head::Nothing }
+    if slots_hold(format, words, head) {
+        head
+    } else {
+        Head::Nothing
+    }
 }

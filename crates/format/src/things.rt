@@ -38,6 +38,7 @@ pub enum Kind {
 // `make`, `set_slot`, `forward` and `pad` are built on them once for every format, and refuse.
 pub trait Format {
     const GREATEST_NUMBER: u32;
+
     const GREATEST_ADDRESS: u32;
 
     ghost meaning: { Self → Meaning };

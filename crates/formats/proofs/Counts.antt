@@ -22,10 +22,10 @@ slot-back s i (Number v) h = grind (arith, tells)
 
 pub counted-lawful : Lawful counted
 counted-lawful = coded-lawful counted-coding (record {
-    ranges = λ s a. grind (arith, tells);
-    object = λ s a. grind (arith, tells);
-    forwarded = λ k to a b c d. grind (arith, tells);
-    padding = λ k a b. grind (arith, tells);
-    slot = slot-back;
-    zero = λ s i. grind (arith, tells)
-  })
+  ranges = λ s a. grind (arith, tells);
+  object = λ s a. grind (arith, tells);
+  forwarded = λ k to a b c d. grind (arith, tells);
+  padding = λ k a b. grind (arith, tells);
+  slot = slot-back;
+  zero = λ s i. grind (arith, tells);
+})

@@ -19,10 +19,10 @@ slot-back s i (Number v) h = grind (arith, tells)
 
 pub tagged-lawful : Lawful tagged
 tagged-lawful = coded-lawful tagged-coding (record {
-    ranges = λ s a. grind (arith, tells);
-    object = λ s a. grind (arith, tells);
-    forwarded = λ k to a b c d. grind (arith, tells);
-    padding = λ k a b. grind (arith, tells);
-    slot = slot-back;
-    zero = λ s i. refl
-  })
+  ranges = λ s a. grind (arith, tells);
+  object = λ s a. grind (arith, tells);
+  forwarded = λ k to a b c d. grind (arith, tells);
+  padding = λ k a b. grind (arith, tells);
+  slot = slot-back;
+  zero = λ s i. refl;
+})

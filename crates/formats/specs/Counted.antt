@@ -42,16 +42,16 @@ counted-word (Number v) = v
 
 abbrev pub counted-coding : Coding
 counted-coding = record {
-    greatest-number = 4294967295;
-    admits = λ s. leb (s .layout) (s .n) && leb (s .n) 127;
-    kind = λ s i. cond (ltb i (s .layout)) References Numbers;
-    head-of = counted-head;
-    object-header = λ s. 1 + 4 * (s .n + 1) + 2048 * s .layout;
-    forwarded-header = λ k to. 2 + 4 * (k % 512) + 65536 * (to % 65536);
-    padding-header = λ k. 3 + 4 * (k % 512);
-    slot-of = counted-slot;
-    word-of = counted-word
-  }
+  greatest-number = 4294967295;
+  admits = λ s. leb (s .layout) (s .n) && leb (s .n) 127;
+  kind = λ s i. cond (ltb i (s .layout)) References Numbers;
+  head-of = counted-head;
+  object-header = λ s. 1 + 4 * (s .n + 1) + 2048 * s .layout;
+  forwarded-header = λ k to. 2 + 4 * (k % 512) + 65536 * (to % 65536);
+  padding-header = λ k. 3 + 4 * (k % 512);
+  slot-of = counted-slot;
+  word-of = counted-word;
+}
 
 abbrev pub counted : Meaning
 counted = coded counted-coding

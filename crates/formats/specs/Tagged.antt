@@ -42,16 +42,16 @@ tagged-word (Number v) = 2 * (v % 0x8000_0000) + 1
 
 abbrev pub tagged-coding : Coding
 tagged-coding = record {
-    greatest-number = 2147483647;
-    admits = λ s. eqb (s .layout) 0 && leb (s .n) 127;
-    kind = λ s i. Both;
-    head-of = tagged-head;
-    object-header = λ s. 0x4000_0000 + 65536 * (s .n + 1);
-    forwarded-header = λ k to. 0x8000_0000 + 65536 * (k % 512) + to % 65536;
-    padding-header = λ k. 0xc000_0000 + 65536 * (k % 512);
-    slot-of = tagged-slot;
-    word-of = tagged-word
-  }
+  greatest-number = 2147483647;
+  admits = λ s. eqb (s .layout) 0 && leb (s .n) 127;
+  kind = λ s i. Both;
+  head-of = tagged-head;
+  object-header = λ s. 0x4000_0000 + 65536 * (s .n + 1);
+  forwarded-header = λ k to. 0x8000_0000 + 65536 * (k % 512) + to % 65536;
+  padding-header = λ k. 0xc000_0000 + 65536 * (k % 512);
+  slot-of = tagged-slot;
+  word-of = tagged-word;
+}
 
 abbrev pub tagged : Meaning
 tagged = coded tagged-coding

@@ -33,15 +33,15 @@ pub record Coding : Type 0 where
 -- forwarding leaves them, and reading either passes over them.
 abbrev pub coded : Coding → Meaning
 coded c = record {
-    greatest-number = c .greatest-number;
-    greatest-address = 65535;
-    admits = c .admits;
-    size = λ s. s .n + 1;
-    kind = c .kind;
-    head = λ ws. c .head-of (getD ws 0 0);
-    slot = λ s ws i. c .slot-of s i (getD ws (i + 1) 0);
-    made = λ s ws. stamped (c .object-header s) ws;
-    with-slot = λ s i x ws. set ws (i + 1) (c .word-of x);
-    forwarding = λ to ws. set ws 0 (c .forwarded-header (length ws) to);
-    padded = λ ws. stamped (c .padding-header (length ws)) ws
-  }
+  greatest-number = c .greatest-number;
+  greatest-address = 65535;
+  admits = c .admits;
+  size = λ s. s .n + 1;
+  kind = c .kind;
+  head = λ ws. c .head-of (getD ws 0 0);
+  slot = λ s ws i. c .slot-of s i (getD ws (i + 1) 0);
+  made = λ s ws. stamped (c .object-header s) ws;
+  with-slot = λ s i x ws. set ws (i + 1) (c .word-of x);
+  forwarding = λ to ws. set ws 0 (c .forwarded-header (length ws) to);
+  padded = λ ws. stamped (c .padding-header (length ws)) ws;
+}

@@ -15,6 +15,7 @@ pub struct Counted;
 
 pub impl Format for Counted as CountedFormat {
     const GREATEST_NUMBER: u32 = 4_294_967_295;
+
     const GREATEST_ADDRESS: u32 = 65_535;
 
     ghost meaning = { λ _. counted };
@@ -36,7 +37,11 @@ pub impl Format for Counted as CountedFormat {
     }
 
     fn kind(&self, shape: Shape, i: u8) -> Kind {
-        if i < shape.layout { Kind::References } else { Kind::Numbers }
+        if i < shape.layout {
+            Kind::References
+        } else {
+            Kind::Numbers
+        }
     }
 
     fn head(&self, words: &[u32]) -> Head {
@@ -45,11 +50,18 @@ pub impl Format for Counted as CountedFormat {
 
     fn slot(&self, words: &[u32], shape: Shape, i: u8) -> Slot {
         let word = word_at(words, i as usize + 1);
-        if i < shape.layout { Slot::Reference(word) } else { Slot::Number(word) }
+        if i < shape.layout {
+            Slot::Reference(word)
+        } else {
+            Slot::Number(word)
+        }
     }
 
     fn write_object(&self, own: &mut [u32], shape: Shape) {
-        stamp(own, 1 + 4 * (shape.n as u32 + 1) + 2048 * shape.layout as u32);
+        stamp(
+            own,
+            1 + 4 * (shape.n as u32 + 1) + 2048 * shape.layout as u32,
+        );
     }
 
     fn write_slot(&self, own: &mut [u32], _shape: Shape, i: u8, value: Slot) {
@@ -78,10 +90,18 @@ fn decode(word: u32) -> Head
     let size = word / 4 % 512;
     match word % 4 {
         1 if 1 <= size && size <= 128 && word / 2048 < 128 => {
-            Head::Object(Shape { layout: (word / 2048) as u8, n: (size - 1) as u8 })
+            Head::Object(Shape {
+                layout: (word / 2048) as u8,
+                n: (size - 1) as u8,
+            })
         }
-        2 if word / 2048 % 32 == 0 => Head::Forwarded { size: size as usize, to: word / 65_536 },
-        3 if word / 2048 == 0 => Head::Padding { size: size as usize },
+        2 if word / 2048 % 32 == 0 => Head::Forwarded {
+            size: size as usize,
+            to: word / 65_536,
+        },
+        3 if word / 2048 == 0 => Head::Padding {
+            size: size as usize,
+        },
         _ => Head::Nothing,
     }
 }

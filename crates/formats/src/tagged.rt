@@ -15,6 +15,7 @@ pub struct Tagged;
 
 pub impl Format for Tagged as TaggedFormat {
     const GREATEST_NUMBER: u32 = 2_147_483_647;
+
     const GREATEST_ADDRESS: u32 = 65_535;
 
     ghost meaning = { λ _. tagged };
@@ -45,7 +46,11 @@ pub impl Format for Tagged as TaggedFormat {
 
     fn slot(&self, words: &[u32], _shape: Shape, i: u8) -> Slot {
         let word = word_at(words, i as usize + 1);
-        if word % 2 == 0 { Slot::Reference(word / 2) } else { Slot::Number(word / 2) }
+        if word % 2 == 0 {
+            Slot::Reference(word / 2)
+        } else {
+            Slot::Number(word / 2)
+        }
     }
 
     fn write_object(&self, own: &mut [u32], shape: Shape) {
@@ -81,9 +86,17 @@ fn decode(word: u32) -> Head
         return Head::Nothing;
     }
     match word / 0x4000_0000 {
-        1 if 1 <= size && size <= 128 && low == 0 => Head::Object(Shape { layout: 0, n: (size - 1) as u8 }),
-        2 => Head::Forwarded { size: size as usize, to: low },
-        3 if low == 0 => Head::Padding { size: size as usize },
+        1 if 1 <= size && size <= 128 && low == 0 => Head::Object(Shape {
+            layout: 0,
+            n: (size - 1) as u8,
+        }),
+        2 => Head::Forwarded {
+            size: size as usize,
+            to: low,
+        },
+        3 if low == 0 => Head::Padding {
+            size: size as usize,
+        },
         _ => Head::Nothing,
     }
 }

@@ -26,6 +26,7 @@ few-more k t (Padding n) f = record { objects = omega arith; forwarded = omega a
 
 pub tally-more : (es : List Entry) (i : ℕ) (d : Entry) (t u : Tally) → i < length es → u ≡ with-one t (getD es i d .head) → t ≡ tally-of (take i es) → Few i t
     → (u ≡ tally-of (take (i + 1) es)) × Few (i + 1) u
-tally-more es i d t u l e h f =
-    (e ∙ ap (λ z. with-one z (getD es i d .head)) h ∙ sym (folded-more (λ z x. with-one z (x .head)) (record { objects = 0; forwarded = 0; paddings = 0 }) es i d l),
-     rw e (few-more i t (getD es i d .head) f))
+tally-more es i d t u l e h f = (
+  e ∙ ap (λ z. with-one z (getD es i d .head)) h ∙ sym (folded-more (λ z x. with-one z (x .head)) (record { objects = 0; forwarded = 0; paddings = 0 }) es i d l),
+  rw e (few-more i t (getD es i d .head) f),
+)

@@ -34,22 +34,22 @@ module _ (m : Meaning) (ws : List ℕ) where
   pub none-past : (a : ℕ) → length ws ≤ a → read-head m (drop a ws) ≡ Nothing
   none-past a l =
       elim (head-cases m (drop a ws)) [
-        inl e ↦ e
-      | inr r ↦ absurd (omega (arith, range-extent m (m .head (drop a ws)) (r .1 .range), r .1 .fits, length-drop a ws))
+        | inl e ↦ e
+        | inr r ↦ absurd (omega (arith, range-extent m (m .head (drop a ws)) (r .1 .range), r .1 .fits, length-drop a ws))
       ]
 
   -- an entry takes a word at least, and lies within the words
   pub entry-inside : (a : ℕ) (e : Entry) → Some e ≡ entry-at m ws a → (1 ≤ extent m (e .head)) × (a + extent m (e .head) ≤ length ws)
   entry-inside a e o =
       elim (head-cases m (drop a ws)) [
-        inl d ↦ absurd (let z : Some e ≡ None = o ∙ ap (entry-of a) d in let y : _≡_ {A = ℕ} 0 1 = cc in omega arith)
-      | inr r ↦ (
-          let h = m .head (drop a ws) in
-          let z : Some e ≡ Some (entry a h) = o ∙ sym (entry-is a h (sym (r .0)) (range-some m h (r .1 .range))) in
-          let y : e ≡ entry a h = cc in
-          let x : e .head ≡ h = ap (λ (q : Entry). q .head) y in
-          let i = range-extent m h (r .1 .range) in
-          rw x (i .0, omega (arith, i, r .1 .fits, length-drop a ws)))
+        | inl d ↦ absurd (let z : Some e ≡ None = o ∙ ap (entry-of a) d in let y : _≡_ {A = ℕ} 0 1 = cc in omega arith)
+        | inr r ↦ (
+            let h = m .head (drop a ws) in
+            let z : Some e ≡ Some (entry a h) = o ∙ sym (entry-is a h (sym (r .0)) (range-some m h (r .1 .range))) in
+            let y : e ≡ entry a h = cc in
+            let x : e .head ≡ h = ap (λ (q : Entry). q .head) y in
+            let i = range-extent m h (r .1 .range) in
+            rw x (i .0, omega (arith, i, r .1 .fits, length-drop a ws)))
       ]
 
   -- ---- a row is gapless
@@ -63,19 +63,22 @@ module _ (m : Meaning) (ws : List ℕ) where
   followed k a h r e rest =
       let f : Shape → ℕ → Slot = λ s. m .slot s (drop a ws) in
       let t : thing-at m ws a ≡ thing f h = reads-is m (drop a ws) h r in
-      let z : span m (thing-at m ws a) ≡ extent m h = ap (span m) t ∙ span-thing m f h in
-      (refl, sym e, λ d. thing-some f h (range-some m h (r .range)) (sym t ∙ d),
-       subst (λ (n : ℕ). Gapless m ws (a + n) (row-from m ws k (a + extent m h)) (end-from m (a + extent m h) (row-from m ws k (a + extent m h)))) (sym z) rest)
+      let z : span m (thing-at m ws a) ≡ extent m h = ap (span m) t ∙ span-thing m f h in (
+        refl,
+        sym e,
+        λ d. thing-some f h (range-some m h (r .range)) (sym t ∙ d),
+        subst (λ (n : ℕ). Gapless m ws (a + n) (row-from m ws k (a + extent m h)) (end-from m (a + extent m h) (row-from m ws k (a + extent m h)))) (sym z) rest,
+      )
 
   pub gapless-from : (k a : ℕ) → length ws ≤ a + k → Gapless m ws a (row-from m ws k a) (end-from m a (row-from m ws k a))
   gapless-from zero a l = (refl, nothing-from m (drop a ws) (none-past a (omega arith)))
   gapless-from (suc k) a l =
       elim (head-cases m (drop a ws)) [
-        inl e ↦ subst (Followed k a) (sym (ap (entry-of a) e)) (refl, nothing-from m (drop a ws) e)
-      | inr r ↦ (
-          let h = m .head (drop a ws) in
-          let i = range-extent m h (r .1 .range) in
-          subst (Followed k a) (entry-is a h (sym (r .0)) (range-some m h (r .1 .range)))
+        | inl e ↦ subst (Followed k a) (sym (ap (entry-of a) e)) (refl, nothing-from m (drop a ws) e)
+        | inr r ↦ (
+            let h = m .head (drop a ws) in
+            let i = range-extent m h (r .1 .range) in
+            subst (Followed k a) (entry-is a h (sym (r .0)) (range-some m h (r .1 .range)))
             (followed k a h (r .1) (r .0) (gapless-from k (a + extent m h) (omega (arith, i)))))
       ]
 
@@ -115,7 +118,7 @@ module _ (m : Meaning) (ws : List ℕ) where
         left = append-assoc es (e ∷ []) _ ∙ ap (λ z. es ++ z) (sym (row-some (length ws - length (es ++ (e ∷ []))) a e o)) ∙ ap (λ z. es ++ row-from m ws z a) (sym k) ∙ l .left;
         behind = end-push es 0 e ∙ ap (λ z. z + extent m (e .head)) (l .behind);
         few = omega (arith, n, l .few, i .0);
-        inside = i .1
+        inside = i .1;
       }
 
   pub listing-more : (es : List Entry) (a : ℕ) (e : Entry) → Listing es a → Some e ≡ entry-at m ws a

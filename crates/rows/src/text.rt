@@ -28,10 +28,19 @@ fn slot_line(heap: Global, i: u8, slot: Slot) -> Result<String, AllocError>
     }
 }
 
-fn object_line(heap: Global, place: usize, size: usize, layout: u8, n: u8) -> Result<String, AllocError>
+fn object_line(
+    heap: Global,
+    place: usize,
+    size: usize,
+    layout: u8,
+    n: u8,
+) -> Result<String, AllocError>
     ensures { λ r. ⌜ made r (λ s. string-bytes s ≡ object-line place size layout n) ⌝ }
 {
-    format!(heap, "{place} object size {size} layout {layout} slots {n}\n")
+    format!(
+        heap,
+        "{place} object size {size} layout {layout} slots {n}\n"
+    )
 }
 
 fn nothing_line(heap: Global, place: usize) -> Result<String, AllocError>
@@ -46,7 +55,12 @@ fn whole_line(heap: Global, end: usize) -> Result<String, AllocError>
     format!(heap, "{end} end, the row is whole\n")
 }
 
-fn head_line<F: Format>(heap: Global, format: &F, place: usize, head: Head) -> Result<String, AllocError>
+fn head_line<F: Format>(
+    heap: Global,
+    format: &F,
+    place: usize,
+    head: Head,
+) -> Result<String, AllocError>
     ensures { λ r. ⌜ made r (λ s. string-bytes s ≡ head-line (F·Format .meaning (now (format .entry))) place head) ⌝ }
 {
     match head {
@@ -60,18 +74,35 @@ fn head_line<F: Format>(heap: Global, format: &F, place: usize, head: Head) -> R
 fn end_line(heap: Global, end: usize, len: usize) -> Result<String, AllocError>
     ensures { λ r. ⌜ made r (λ s. string-bytes s ≡ end-line end len) ⌝ }
 {
-    if end == len { whole_line(heap, end) } else { nothing_line(heap, end) }
+    if end == len {
+        whole_line(heap, end)
+    } else {
+        nothing_line(heap, end)
+    }
 }
 
 fn tally_line(heap: Global, counts: Tally) -> Result<String, AllocError>
     ensures { λ r. ⌜ made r (λ s. string-bytes s ≡ tally-line counts) ⌝ }
 {
-    let Tally { objects, forwarded, paddings } = counts;
-    format!(heap, "objects {objects} forwarded {forwarded} paddings {paddings}\n")
+    let Tally {
+        objects,
+        forwarded,
+        paddings,
+    } = counts;
+    format!(
+        heap,
+        "objects {objects} forwarded {forwarded} paddings {paddings}\n"
+    )
 }
 
 // Adds a line for each slot of an object.
-fn put_slots<F: Format>(heap: Global, out: &mut String, format: &F, own: &[u32], shape: Shape) -> Result<(), AllocError>
+fn put_slots<F: Format>(
+    heap: Global,
+    out: &mut String,
+    format: &F,
+    own: &[u32],
+    shape: Shape,
+) -> Result<(), AllocError>
     ensures { λ r. ⌜ made r (λ _. string-bytes (now (out .exit)) ≡ string-bytes (now (out .entry)) ++ slot-lines (F·Format .meaning (now (format .entry))) (now (own .entry)) shape (shape .n)) ⌝ }
 {
     for i in 0..shape.n {
@@ -81,7 +112,13 @@ fn put_slots<F: Format>(heap: Global, out: &mut String, format: &F, own: &[u32],
     Ok(())
 }
 
-fn put_slots_of<F: Format>(heap: Global, out: &mut String, format: &F, own: &[u32], head: Head) -> Result<(), AllocError>
+fn put_slots_of<F: Format>(
+    heap: Global,
+    out: &mut String,
+    format: &F,
+    own: &[u32],
+    head: Head,
+) -> Result<(), AllocError>
     ensures { λ r. ⌜ made r (λ _. string-bytes (now (out .exit)) ≡ string-bytes (now (out .entry)) ++ slots-text (F·Format .meaning (now (format .entry))) (now (own .entry)) head) ⌝ }
 {
     match head {
@@ -91,16 +128,34 @@ fn put_slots_of<F: Format>(heap: Global, out: &mut String, format: &F, own: &[u3
 }
 
 // Adds the lines of a thing.
-fn put_entry<F: Format>(heap: Global, out: &mut String, format: &F, words: &[u32], entry: Entry) -> Result<(), AllocError>
+fn put_entry<F: Format>(
+    heap: Global,
+    out: &mut String,
+    format: &F,
+    words: &[u32],
+    entry: Entry,
+) -> Result<(), AllocError>
     ensures { λ r. ⌜ made r (λ _. string-bytes (now (out .exit)) ≡ string-bytes (now (out .entry)) ++ entry-text (F·Format .meaning (now (format .entry))) (now (words .entry)) entry) ⌝ }
 {
     let line = head_line(heap, format, entry.place, entry.head)?;
     out.push_str(line.as_str())?;
-    put_slots_of(heap, out, format, words_from(words, entry.place), entry.head)?;
+    put_slots_of(
+        heap,
+        out,
+        format,
+        words_from(words, entry.place),
+        entry.head,
+    )?;
     Ok(())
 }
 
-fn put_entries<F: Format>(heap: Global, out: &mut String, format: &F, words: &[u32], entries: &[Entry]) -> Result<(), AllocError>
+fn put_entries<F: Format>(
+    heap: Global,
+    out: &mut String,
+    format: &F,
+    words: &[u32],
+    entries: &[Entry],
+) -> Result<(), AllocError>
     ensures { λ r. ⌜ made r (λ _. string-bytes (now (out .exit)) ≡ string-bytes (now (out .entry)) ++ joined (entry-text (F·Format .meaning (now (format .entry))) (now (words .entry))) (now (entries .entry))) ⌝ }
 {
     for entry in entries {

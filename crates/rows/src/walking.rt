@@ -40,7 +40,11 @@ pub struct Tally {
 pub(crate) fn words_from(words: &[u32], place: usize) -> &[u32]
     ensures { λ r. ⌜ now r ≡ drop place (now (words .entry)) ⌝ }
 {
-    if place <= words.len() { &words[place..] } else { &words[words.len()..] }
+    if place <= words.len() {
+        &words[place..]
+    } else {
+        &words[words.len()..]
+    }
 }
 
 fn entry_of(place: usize, head: Head) -> Option<Entry>
@@ -48,7 +52,10 @@ fn entry_of(place: usize, head: Head) -> Option<Entry>
 {
     match head {
         Head::Nothing => None,
-        Head::Object(_) | Head::Forwarded { .. } | Head::Padding { .. } => Some(Entry { place, head }),
+        Head::Object(_) | Head::Forwarded { .. } | Head::Padding { .. } => Some(Entry {
+            place,
+            head,
+        }),
     }
 }
 
@@ -78,12 +85,28 @@ fn one_more(counts: Tally, head: Head) -> Tally
     requires { ⌜ counts .objects + 1 < 2 ^ 64 ⌝ ∗ ⌜ counts .forwarded + 1 < 2 ^ 64 ⌝ ∗ ⌜ counts .paddings + 1 < 2 ^ 64 ⌝ }
     ensures { λ r. ⌜ r ≡ with-one counts head ⌝ }
 {
-    let Tally { objects, forwarded, paddings } = counts;
+    let Tally {
+        objects,
+        forwarded,
+        paddings,
+    } = counts;
     match head {
         Head::Nothing => counts,
-        Head::Object(_) => Tally { objects: objects + 1, forwarded, paddings },
-        Head::Forwarded { .. } => Tally { objects, forwarded: forwarded + 1, paddings },
-        Head::Padding { .. } => Tally { objects, forwarded, paddings: paddings + 1 },
+        Head::Object(_) => Tally {
+            objects: objects + 1,
+            forwarded,
+            paddings,
+        },
+        Head::Forwarded { .. } => Tally {
+            objects,
+            forwarded: forwarded + 1,
+            paddings,
+        },
+        Head::Padding { .. } => Tally {
+            objects,
+            forwarded,
+            paddings: paddings + 1,
+        },
     }
 }
 
@@ -91,7 +114,11 @@ fn one_more(counts: Tally, head: Head) -> Tally
 pub fn count_kinds(entries: &[Entry]) -> Tally
     ensures { λ r. ⌜ r ≡ tally-of (now (entries .entry)) ⌝ }
 {
-    let mut counts = Tally { objects: 0, forwarded: 0, paddings: 0 };
+    let mut counts = Tally {
+        objects: 0,
+        forwarded: 0,
+        paddings: 0,
+    };
     for entry in entries {
         counts = one_more(counts, entry.head);
     }

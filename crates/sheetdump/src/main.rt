@@ -89,7 +89,10 @@ fn listed(heap: Global, name: Name, words: &[u32]) -> Result<String, AllocError>
 fn words_in(heap: Global, text: &[u8], start: usize) -> Result<Vec<u32>, Trouble> {
     match parse(heap, text, start) {
         Ok(words) => Ok(words),
-        Err(Failure::Bad(fault)) => Err(Trouble::BadWord(fault.problem, position(text, fault.from))),
+        Err(Failure::Bad(fault)) => Err(Trouble::BadWord(
+            fault.problem,
+            position(text, fault.from),
+        )),
         Err(Failure::NoMemory) => Err(Trouble::NoMemory),
     }
 }
@@ -113,17 +116,29 @@ fn complain_of_word(rt: &LibcRuntime, problem: Problem, place: Position) -> io::
     let column = place.column;
     match problem {
         Problem::NotANumber => {
-            eprintln!(rt, "sheetdump: line {line}, column {column}: not a number; write it in decimal, or in hexadecimal after 0x")
+            eprintln!(
+                rt,
+                "sheetdump: line {line}, column {column}: not a number; write it in decimal, or in hexadecimal after 0x"
+            )
         }
-        Problem::TooLarge => eprintln!(rt, "sheetdump: line {line}, column {column}: the number does not fit 32 bits"),
+        Problem::TooLarge => eprintln!(
+            rt,
+            "sheetdump: line {line}, column {column}: the number does not fit 32 bits"
+        ),
     }
 }
 
 fn complain(rt: &LibcRuntime, trouble: Trouble) -> io::Result<()> {
     match trouble {
-        Trouble::TooManyArguments => eprintln!(rt, "sheetdump: more than one argument; usage: sheetdump [counted|tagged] < words"),
+        Trouble::TooManyArguments => eprintln!(
+            rt,
+            "sheetdump: more than one argument; usage: sheetdump [counted|tagged] < words"
+        ),
         Trouble::UnknownFormat => {
-            eprintln!(rt, "sheetdump: no such format: the first argument, or without one line 1 of the input, is counted or tagged")
+            eprintln!(
+                rt,
+                "sheetdump: no such format: the first argument, or without one line 1 of the input, is counted or tagged"
+            )
         }
         Trouble::BadWord(problem, place) => complain_of_word(rt, problem, place),
         Trouble::NoMemory => eprintln!(rt, "sheetdump: out of memory"),

@@ -12,6 +12,6 @@ returns-in-Object g c =
     (λ s. string-bytes s ≡ object-line (c .args .place) (c .size .result) (c .in-Object .shape .layout) (c .in-Object .shape .n))
     (λ s. string-bytes s ≡ head-line (g .F·Format .meaning (c .args .format .now)) (c .args .place) (c .args .head))
     (λ s e. e
-      ∙ ap (λ k. object-line (c .args .place) k (c .in-Object .shape .layout) (c .in-Object .shape .n)) (c .size .ensures)
-      ∙ ap (head-line (g .F·Format .meaning (c .args .format .now)) (c .args .place)) (sym (c .in-Object .is)))
+    ∙ ap (λ k. object-line (c .args .place) k (c .in-Object .shape .layout) (c .in-Object .shape .n)) (c .size .ensures)
+    ∙ ap (head-line (g .F·Format .meaning (c .args .format .now)) (c .args .place)) (sym (c .in-Object .is)))
     (c .object-line .ensures)

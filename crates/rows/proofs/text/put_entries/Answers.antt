@@ -17,4 +17,4 @@ pub returns : need.returns
 returns g c =
     c .loop-entry .inv
     ∙ ap (λ z. string-bytes (c .args .out .now) ++ joined (entry-text (g .F·Format .meaning (c .args .format .now)) (c .args .words .now)) z)
-      (take-all (c .loop-entry .entry-index) (c .args .entries .now) (c .loop-entry-test .left))
+    (take-all (c .loop-entry .entry-index) (c .args .entries .now) (c .loop-entry-test .left))

@@ -6,9 +6,9 @@ use Rattle.rows.proofs.walking.list.Needs as need
 
 pub returns-in-Break-push : need.returns-in-Break-push
 returns-in-Break-push g c = record {
-    listed = made-from-err (c .from-residual .result) _ (c .from-residual .ensures .0);
-    laws = row-law (g .F·Format .meaning (c .args .format .now)) (c .args .words .now)
-  }
+  listed = made-from-err (c .from-residual .result) _ (c .from-residual .ensures .0);
+  laws = row-law (g .F·Format .meaning (c .args .format .now)) (c .args .words .now);
+}
 
 pub add-end : need.add-end
 add-end g c =
@@ -32,5 +32,5 @@ returns g c =
     let r = listing-all m ws (vec-items (c .loop-next .entries)) (c .loop-next .end) (c .loop-next .inv) (c .in-rest .ensures tt) in
     record {
       listed = record { things = r .0; behind = r .1 };
-      laws = row-law m ws
+      laws = row-law m ws;
     }
