@@ -115,6 +115,23 @@ module _ (m : Meaning) (ws : List ℕ) where
         | inr f ↦ inl (unseen (cond-false (within m (length ws) (m .head ws)) (m .head ws) Nothing f))
       ]
 
+  -- what is seen is nothing, or takes a word at least and lies within the words
+  pub seen-cases : (seen m ws ≡ Nothing) ⊎ ((in-range m (seen m ws) ≡ true) × (extent m (seen m ws) ≤ length ws))
+  seen-cases =
+      elim (cases-bool (within m (length ws) (m .head ws))) [
+        | inl t ↦ (
+            let o : seen m ws ≡ m .head ws = cond-true (within m (length ws) (m .head ws)) (m .head ws) Nothing t in
+            let p = and-parts (in-range m (m .head ws)) (leb (extent m (m .head ws)) (length ws)) t in
+            inr (rw o (p .0), rw o (leb-true _ _ (p .1))))
+        | inr f ↦ inl (cond-false (within m (length ws) (m .head ws)) (m .head ws) Nothing f)
+      ]
+
+  pub seen-inside : extent m (seen m ws) ≤ length ws
+  seen-inside = elim seen-cases [ inl e ↦ rw e (omega arith) | inr r ↦ r .1 ]
+
+  pub seen-some : seen m ws ≢ Nothing → 1 ≤ extent m (seen m ws)
+  seen-some x = elim seen-cases [ inl e ↦ absurd (x e) | inr r ↦ range-extent m (seen m ws) (r .0) .0 ]
+
   pub nothing-from : read-head m ws ≡ Nothing → reads m ws ≡ nothing
   nothing-from e = ap (thing (λ s. m .slot s ws)) e
 

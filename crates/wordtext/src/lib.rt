@@ -6,7 +6,7 @@ ghost use lib.Dec.{ltb};
 ghost use lib.ListN.{length, drop};
 ghost use Rattle.std.specs.declared.option.Option.the-variants.{Some, None};
 ghost use Rattle.std.specs.shelf.Lists.{leading};
-ghost use Rattle.wordtext.specs.Lines.{position-of, first-line-of};
+ghost use Rattle.wordtext.specs.Lines.{newline, position-of, first-line-of};
 ghost use Rattle.wordtext.specs.Numbers.{digit-of, numeral-value, value-of};
 ghost use Rattle.wordtext.specs.Texts.{white, dark, Parsed, Longest, Reads-back};
 ghost use Rattle.wordtext.specs.declared.Failure.the-variants.{NoMemory};
@@ -148,6 +148,12 @@ pub fn parse(heap: Global, text: &[u8], start: usize) -> Result<Vec<u32>, Failur
     Ok(words)
 }
 
+fn is_newline(byte: u8) -> bool
+    ensures { λ r. ⌜ r ≡ newline byte ⌝ }
+{
+    matches!(byte, b'\n')
+}
+
 // The line and the column of a place: newlines end lines, and a place past the end counts as the end.
 pub fn position(text: &[u8], place: usize) -> Position
     ensures { λ r. ⌜ r ≡ position-of (now (text .entry)) place ⌝ }
@@ -171,7 +177,7 @@ pub fn first_line(text: &[u8]) -> usize
     ensures { λ r. ⌜ r ≡ first-line-of (now (text .entry)) ⌝ }
 {
     for end in 0..text.len() {
-        if text[end] == b'\n' {
+        if is_newline(text[end]) {
             return end;
         }
     }

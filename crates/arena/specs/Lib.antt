@@ -1,0 +1,4 @@
+pub mod Boards
+pub mod Segments
+pub mod Buffers
+pub mod Runs
