@@ -1,0 +1,6 @@
+mod Fates
+mod Turns
+mod Walks
+mod Pointing
+mod Chain
+mod Performing

@@ -1,0 +1,3 @@
+pub mod Traces
+pub mod Collections
+pub mod Collect
