@@ -1,4 +1,6 @@
 // The arena: segments and their owners, rows of things, runs of paddings, and the mark and grey boards.
+#![tactic(auto)]
+
 mod boards;
 mod buffers;
 mod runs;

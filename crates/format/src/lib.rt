@@ -1,4 +1,6 @@
 // Object formats: how an object lies in words.
+#![tactic(auto)]
+
 mod checks;
 mod reading;
 mod refusals;

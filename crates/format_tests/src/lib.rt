@@ -1,4 +1,6 @@
 // Tests of the object formats: tables of words, of what they read as and of what a write makes of them.
+#![tactic(auto)]
+
 #[cfg(test)]
 mod checks;
 #[cfg(test)]

@@ -1,4 +1,6 @@
 // The object formats: counted and tagged. Both have a header word, and a word for each slot after it.
+#![tactic(auto)]
+
 mod counted;
 mod tagged;
 mod words;

@@ -1,4 +1,6 @@
 // Location dependencies: which zones of addresses a client relies on, and whether anything there may have moved since.
+#![tactic(auto)]
+
 ghost use Rattle.std.specs.Prelude.{◌≡◌};
 ghost use Rattle.location.specs.Locations.{zone_of, zone_bit, empty_history, age_answer, age_after, reset_to, entered, aged_since, is_stale, NeverMisses};
 

@@ -1,4 +1,6 @@
 // Rows of things, and the listing of a row as text.
+#![tactic(auto)]
+
 mod text;
 mod walking;
 

@@ -1,5 +1,7 @@
 // sheetdump [FORMAT]: reads words from standard input and lists the row of things that they hold.
 // Without an argument the format's name stands on the first line of the input.
+#![tactic(auto)]
+
 use formats::{Counted, Tagged};
 use rows::listing;
 use std::alloc::{AllocError, Global};

@@ -1,4 +1,6 @@
 // The trace: fix, scan and sweep, and the collection of a set of pools, one text for every object format.
+#![tactic(auto)]
+
 mod collecting;
 mod collection;
 mod deciding;

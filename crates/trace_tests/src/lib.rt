@@ -1,4 +1,6 @@
 // Tests of the collection by value, each in every format.
+#![tactic(auto)]
+
 #[cfg(test)]
 mod building;
 #[cfg(test)]

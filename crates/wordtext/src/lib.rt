@@ -1,4 +1,6 @@
 // Reads 32-bit words as text: decimal numbers, or hexadecimal ones after `0x`, with white space between them.
+#![tactic(auto)]
+
 ghost use Rattle.std.specs.Prelude.{◌≡◌, ◌+◌, ◌<◌, ◌≤◌, length, drop, if◌then◌else◌, Some, None, nat_lt};
 ghost use Rattle.std.specs.List.{prefix_len};
 ghost use Rattle.wordtext.specs.Lines.{newline, position_of, first_line_of};
