@@ -4,9 +4,9 @@ use Rattle.std.proofs.lemmas.Bool.{eqb-false}
 use Rattle.wordtext.proofs.Numerals.{digit_some, digit_none, digits_fail, digit_more, numeral_small, numeral_large, numeral_bad}
 use Rattle.wordtext.proofs.numeral.Goals as goal
 
-pub returns-in-default : goal.returns-in-default
-returns-in-default c =
-    let e = digit_none _ _ c.in-default.ensures in
+pub returns-in_default : goal.returns-in_default
+returns-in_default c =
+    let e = digit_none _ _ c.in_default.ensures in
     sym (numeral_bad c.args.base c.args.digits.now (digits_fail c.args.base c.args.digits.now c.loop-byte.byte-index c.loop-byte-test.true e))
 
 pub loop-byte-preserved : goal.loop-byte-preserved
@@ -18,11 +18,11 @@ loop-byte-preserved c =
 pub returns-then-value-lt-LIMIT : goal.returns-then-value-lt-LIMIT
 returns-then-value-lt-LIMIT c =
     let t = take_all c.loop-byte.byte-index c.args.digits.now c.loop-byte-test.false in
-    let some : 0 < length c.args.digits.now = omega (arith, eqb-false (length c.args.digits.now) 0 (sym c.if-is-empty.ensures)) in
+    let some : 0 < length c.args.digits.now = omega (arith, eqb-false (length c.args.digits.now) 0 (sym c.if-is_empty.ensures)) in
     sym (numeral_small c.args.base c.args.digits.now c.loop-byte.value some (rw t at c.loop-byte.invariant.0) (rw t at c.loop-byte.invariant.1) c.if-value-lt-LIMIT.true)
 
 pub returns-else-value-lt-LIMIT : goal.returns-else-value-lt-LIMIT
 returns-else-value-lt-LIMIT c =
     let t = take_all c.loop-byte.byte-index c.args.digits.now c.loop-byte-test.false in
-    let some : 0 < length c.args.digits.now = omega (arith, eqb-false (length c.args.digits.now) 0 (sym c.if-is-empty.ensures)) in
+    let some : 0 < length c.args.digits.now = omega (arith, eqb-false (length c.args.digits.now) 0 (sym c.if-is_empty.ensures)) in
     sym (numeral_large c.args.base c.args.digits.now c.loop-byte.value some (rw t at c.loop-byte.invariant.0) (rw t at c.loop-byte.invariant.1) c.if-value-lt-LIMIT.false)

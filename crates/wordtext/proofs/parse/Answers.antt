@@ -5,28 +5,28 @@ use Rattle.wordtext.proofs.Pieces.{cut, words_white, words_more, words_bad, word
 use Rattle.wordtext.proofs.Printed.{reads_back}
 use Rattle.wordtext.proofs.parse.Goals as goal
 
-pub loop-at-preserved-then-is-white : goal.loop-at-preserved-then-is-white
-loop-at-preserved-then-is-white c =
-    c.loop-at.invariant ∙ ap (after_words (vec_items c.loop-at.words)) (words_white c.args.text.now c.loop-at.at c.loop-at-test.true (sym c.if-is-white.ensures))
+pub loop-at-preserved-then-is_white : goal.loop-at-preserved-then-is_white
+loop-at-preserved-then-is_white c =
+    c.loop-at.invariant ∙ ap (after_words (vec_items c.loop-at.words)) (words_white c.args.text.now c.loop-at.at c.loop-at-test.true (sym c.if-is_white.ensures))
 
 pub loop-at-preserved : goal.loop-at-preserved
 loop-at-preserved c =
-    words_more c.args.text.now c.loop-at.at c.piece-end-end.result c.loop-at-test.true (sym c.if-is-white.ensures) c.piece-end-end.ensures.value
+    words_more c.args.text.now c.loop-at.at c.piece_end-end.result c.loop-at-test.true (sym c.if-is_white.ensures) c.piece_end-end.ensures.value
     (vec_items c.loop-at.words) (words_of c.args.text.now c.args.start) c.loop-at.invariant c.in-Ok.word (sym c.in-Ok.ensures)
-    ∙ ap (λ xs. after_words xs (words_of c.args.text.now c.piece-end-end.result)) (sym c.in-ok-push.ensures.items)
+    ∙ ap (λ xs. after_words xs (words_of c.args.text.now c.piece_end-end.result)) (sym c.in_ok-push.ensures.items)
 
 pub returns-in-Err : goal.returns-in-Err
 returns-in-Err c =
     record {
       words =
-          words_bad c.args.text.now c.loop-at.at c.piece-end-end.result c.loop-at-test.true (sym c.if-is-white.ensures) c.piece-end-end.ensures.value
+          words_bad c.args.text.now c.loop-at.at c.piece_end-end.result c.loop-at-test.true (sym c.if-is_white.ensures) c.piece_end-end.ensures.value
           (vec_items c.loop-at.words) (words_of c.args.text.now c.args.start) c.loop-at.invariant c.in-Err.problem (sym c.in-Err.ensures);
       longest = cut;
       back = reads_back;
     }
 
-pub returns-in-err-push : goal.returns-in-err-push
-returns-in-err-push c =
+pub returns-in_err-push : goal.returns-in_err-push
+returns-in_err-push c =
     let p = err_from_is_err_and c.from-residual.result c.from-residual.ensures.1 in
     record { words = rw (p.1, p.2) tt; longest = cut; back = reads_back }
 

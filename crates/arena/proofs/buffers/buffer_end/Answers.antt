@@ -2,16 +2,16 @@ use Rattle.std.proofs.Common.{sym, ◌∙◌}
 use Rattle.arena.proofs.Passing.{buffer_here, buffer_next, buffer_none}
 use Rattle.arena.proofs.buffers.buffer_end.Goals as goal
 
-pub returns-then-begins-at : goal.returns-then-begins-at
-returns-then-begins-at c =
+pub returns-then-begins_at : goal.returns-then-begins_at
+returns-then-begins_at c =
     sym (buffer_here c.args.buffers.now c.loop-buffer.buffer-index c.args.place _ c.loop-buffer-test.true
-    (sym c.begins-at.ensures ∙ c.if-begins-at.true))
+    (sym c.begins_at.ensures ∙ c.if-begins_at.true))
     ∙ c.loop-buffer.invariant
 
 pub loop-buffer-preserved : goal.loop-buffer-preserved
 loop-buffer-preserved c =
     sym (buffer_next c.args.buffers.now c.loop-buffer.buffer-index c.args.place _ c.loop-buffer-test.true
-    (sym c.begins-at.ensures ∙ c.if-begins-at.false))
+    (sym c.begins_at.ensures ∙ c.if-begins_at.false))
     ∙ c.loop-buffer.invariant
 
 pub returns : goal.returns

@@ -12,7 +12,7 @@ returns-in-Some g c =
 pub loop-segment-preserved : goal.loop-segment-preserved
 loop-segment-preserved g c =
     sym (run_next (g.F.Format.meaning c.args.format.now) c.args.segments.now c.args.buffers.now c.args.words.now c.args.pool c.args.size
-    (segments_in (length c.args.words.now)) c.loop-segment.segment (omega arith) c.in-default.ensures)
+    (segments_in (length c.args.words.now)) c.loop-segment.segment (omega arith) c.in_default.ensures)
     ∙ c.loop-segment.invariant
 
 pub returns : goal.returns

@@ -6,7 +6,7 @@ use Rattle.arena.proofs.runs.run_in_row.Goals as goal
 
 pub returns-in-Stop : goal.returns-in-Stop
 returns-in-Stop g c =
-    c.fitting-run.ensures
+    c.fitting_run.ensures
     ∙ sym (found_stop (g.F.Format.meaning c.args.format.now) c.args.buffers.now c.args.words.now c.args.end c.args.size c.loop-next.run c.loop-next.place c.in-Stop.ensures)
     ∙ c.loop-next.invariant
 
@@ -24,7 +24,7 @@ loop-next-preserved-in-Padding· g c =
 pub returns-in-Some : goal.returns-in-Some
 returns-in-Some g c =
     let e = found_ended (g.F.Format.meaning c.args.format.now) c.args.buffers.now c.args.words.now c.args.end c.args.size
-    c.loop-next.run c.loop-next.place c.in-Thing.next c.next-step.result c.in-Thing.is c.next-step.ensures in
+    c.loop-next.run c.loop-next.place c.in-Thing.next c.next_step.result c.in-Thing.is c.next_step.ensures in
     ap (λ (o : Option Buffer). or_else o (found_from (g.F.Format.meaning c.args.format.now) c.args.buffers.now c.args.words.now c.args.end c.args.size c.in-Thing.next c.in-Thing.next))
     c.in-Some.ensures
     ∙ sym e.1 ∙ c.loop-next.invariant
@@ -32,13 +32,13 @@ returns-in-Some g c =
 pub loop-next-smaller : goal.loop-next-smaller
 loop-next-smaller g c =
     let e = found_ended (g.F.Format.meaning c.args.format.now) c.args.buffers.now c.args.words.now c.args.end c.args.size
-    c.loop-next.run c.loop-next.place c.in-Thing.next c.next-step.result c.in-Thing.is c.next-step.ensures in
+    c.loop-next.run c.loop-next.place c.in-Thing.next c.next_step.result c.in-Thing.is c.next_step.ensures in
     omega (arith, e.0)
 
 pub loop-next-preserved : goal.loop-next-preserved
 loop-next-preserved g c =
     let e = found_ended (g.F.Format.meaning c.args.format.now) c.args.buffers.now c.args.words.now c.args.end c.args.size
-    c.loop-next.run c.loop-next.place c.in-Thing.next c.next-step.result c.in-Thing.is c.next-step.ensures in
+    c.loop-next.run c.loop-next.place c.in-Thing.next c.next_step.result c.in-Thing.is c.next_step.ensures in
     ap (λ (o : Option Buffer). or_else o (found_from (g.F.Format.meaning c.args.format.now) c.args.buffers.now c.args.words.now c.args.end c.args.size c.in-Thing.next c.in-Thing.next))
-    c.in-default.ensures
+    c.in_default.ensures
     ∙ sym e.1 ∙ c.loop-next.invariant

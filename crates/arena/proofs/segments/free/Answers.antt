@@ -13,5 +13,5 @@ returns-then-base-words c =
     let n : length (take (b + 256 - b) (drop b ws)) ≡ 256 = length-take-le (b + 256 - b) (drop b ws) (omega (arith, length-drop b ws, c.if-base-words.true)) ∙ k in
     record {
       state = sym (cond-true _ _ _ l);
-      words = ap (put_mid b (b + 256 - b) ws) (c.clear-all.ensures ∙ ap (λ z. replicate z 0) n) ∙ ap (λ z. put_mid b z ws (replicate 256 0)) k ∙ sym (cond-true _ _ _ l);
+      words = ap (put_mid b (b + 256 - b) ws) (c.clear_all.ensures ∙ ap (λ z. replicate z 0) n) ∙ ap (λ z. put_mid b z ws (replicate 256 0)) k ∙ sym (cond-true _ _ _ l);
     }

@@ -8,8 +8,8 @@ use Rattle.rows.proofs.text.put_entries.Goals as goal
 pub loop-entry-preserved : goal.loop-entry-preserved
 loop-entry-preserved g c =
     entries_more (g.F.Format.meaning c.args.format.now) c.args.words.now c.args.entries.now c.loop-entry.entry-index _
-    (string_bytes c.loop-entry.out) (string_bytes c.args.out.now) (string_bytes c.put-entry.new.out)
-    c.loop-entry-test.true c.loop-entry.invariant c.in-ok-put-entry.ensures
+    (string_bytes c.loop-entry.out) (string_bytes c.args.out.now) (string_bytes c.put_entry.new.out)
+    c.loop-entry-test.true c.loop-entry.invariant c.in_ok-put_entry.ensures
 
 pub returns : goal.returns
 returns g c =

@@ -5,5 +5,5 @@ use Rattle.rows.proofs.text.put_slots.Goals as goal
 pub loop-i-preserved : goal.loop-i-preserved
 loop-i-preserved g c =
     slots_more (g.F.Format.meaning c.args.format.now) c.args.own.now c.args.shape c.loop-i.i c.slot.result
-    (string_bytes c.loop-i.out) (string_bytes c.args.out.now) c.as-str.result.now (string_bytes c.push-str.new.self)
-    c.loop-i.invariant c.slot.ensures (c.as-str.ensures.value ∙ c.in-ok-line.ensures) c.in-ok-push-str.ensures.bytes
+    (string_bytes c.loop-i.out) (string_bytes c.args.out.now) c.as_str.result.now (string_bytes c.push_str.new.self)
+    c.loop-i.invariant c.slot.ensures (c.as_str.ensures.value ∙ c.in_ok-line.ensures) c.in_ok-push_str.ensures.bytes

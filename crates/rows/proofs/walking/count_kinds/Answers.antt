@@ -6,8 +6,8 @@ use Rattle.rows.proofs.walking.count_kinds.Goals as goal
 
 pub loop-entry-preserved : goal.loop-entry-preserved
 loop-entry-preserved c =
-    tally_more c.args.entries.now c.loop-entry.entry-index _ c.loop-entry.counts c.one-more-counts.result c.loop-entry-test.true
-    c.one-more-counts.ensures c.loop-entry.invariant.0 c.loop-entry.invariant.1
+    tally_more c.args.entries.now c.loop-entry.entry-index _ c.loop-entry.counts c.one_more-counts.result c.loop-entry-test.true
+    c.one_more-counts.ensures c.loop-entry.invariant.0 c.loop-entry.invariant.1
 
 pub returns : goal.returns
 returns c =

@@ -3,8 +3,8 @@ use Rattle.std.proofs.lemmas.Result.{IfOk-from_err}
 use Rattle.rows.proofs.Walks.{row_law, entry_inside, listing_more, listing_all}
 use Rattle.rows.proofs.walking.list.Goals as goal
 
-pub returns-in-err-push : goal.returns-in-err-push
-returns-in-err-push g c = record {
+pub returns-in_err-push : goal.returns-in_err-push
+returns-in_err-push g c = record {
   listed = IfOk-from_err c.from-residual.result _ c.from-residual.ensures.0;
   laws = row_law (g.F.Format.meaning c.args.format.now) c.args.words.now;
 }
@@ -17,7 +17,7 @@ overflow-add-end g c =
 pub loop-next-preserved : goal.loop-next-preserved
 loop-next-preserved g c =
     listing_more (g.F.Format.meaning c.args.format.now) c.args.words.now (vec_items c.loop-next.entries) c.loop-next.end c.in-Some.next
-    c.loop-next.invariant c.in-Some.ensures (vec_items c.push.new.self) c.extent-end.result c.in-ok-push.ensures.items c.extent-end.ensures
+    c.loop-next.invariant c.in-Some.ensures (vec_items c.push.new.self) c.extent-end.result c.in_ok-push.ensures.items c.extent-end.ensures
 
 pub loop-next-smaller : goal.loop-next-smaller
 loop-next-smaller g c =
@@ -28,7 +28,7 @@ pub returns : goal.returns
 returns g c =
     let m = g.F.Format.meaning c.args.format.now in
     let ws = c.args.words.now in
-    let r = listing_all m ws (vec_items c.loop-next.entries) c.loop-next.end c.loop-next.invariant c.in-default.ensures in
+    let r = listing_all m ws (vec_items c.loop-next.entries) c.loop-next.end c.loop-next.invariant c.in_default.ensures in
     record {
       listed = record { things = r.0; behind = r.1 };
       laws = row_law m ws;

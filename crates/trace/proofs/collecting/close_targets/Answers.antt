@@ -9,7 +9,7 @@ loop-p-preserved g c =
     let m = g.F.Format.meaning c.args.format.now in
     let at = target_of c.args.trace.now c.loop-p.p in
     rw (add-one c.loop-p.p)
-    (c.pad-part.ensures ∙ ap (λ k. padded_part m at (at + k) c.loop-p.words) c.rest-of.ensures ∙ ap (padded_part m at (at + rest at)) c.loop-p.invariant)
+    (c.pad_part.ensures ∙ ap (λ k. padded_part m at (at + k) c.loop-p.words) c.rest_of.ensures ∙ ap (padded_part m at (at + rest at)) c.loop-p.invariant)
 
 pub returns : goal.returns
 unfolding all_targets_closed

@@ -7,7 +7,7 @@ use Rattle.trace.proofs.collecting.scan_segments.Goals as goal
 pub loop-s-preserved : goal.loop-s-preserved
 loop-s-preserved g c =
     rw (add-one c.loop-s.s)
-    (c.scan-segment.ensures ∙ ap (λ v. segment_scanned (g.F.Format.meaning c.args.format.now) c.args.plan.now c.args.used.now v c.loop-s.s) c.loop-s.invariant)
+    (c.scan_segment.ensures ∙ ap (λ v. segment_scanned (g.F.Format.meaning c.args.format.now) c.args.plan.now c.args.used.now v c.loop-s.s) c.loop-s.invariant)
 
 pub returns : goal.returns
 unfolding all_scanned

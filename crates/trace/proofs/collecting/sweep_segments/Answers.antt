@@ -6,7 +6,7 @@ use Rattle.trace.proofs.collecting.sweep_segments.Goals as goal
 pub loop-s-preserved : goal.loop-s-preserved
 loop-s-preserved g c =
     rw (add-one c.loop-s.s)
-    (c.sweep-condemned.ensures ∙ ap (λ x. segment_swept (g.F.Format.meaning c.args.format.now) c.args.plan.now c.args.marks.now x c.loop-s.s) c.loop-s.invariant)
+    (c.sweep_condemned.ensures ∙ ap (λ x. segment_swept (g.F.Format.meaning c.args.format.now) c.args.plan.now c.args.marks.now x c.loop-s.s) c.loop-s.invariant)
 
 pub returns : goal.returns
 unfolding all_swept

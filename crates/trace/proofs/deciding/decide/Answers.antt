@@ -14,13 +14,13 @@ returns g c =
     let ws = c.args.words.now in
     let a = c.args.a in
     let own = part a (limit_of a - a) ws in
-    let e = sym c.is-sought.ensures.which ∙ c.if-not-is-sought.false in
-    let i = c.is-sought.ensures.fits c.if-not-is-sought.false in
+    let e = sym c.is_sought.ensures.which ∙ c.if-not-is_sought.false in
+    let i = c.is_sought.ensures.fits c.if-not-is_sought.false in
     let n = seen_inside m own in
     record {
-      which = c.by-thing.ensures.which ∙ ap (by_head m c.args.plan.now c.args.trace.now (length ws) a) c.look.ensures ∙ sym (cond-true (sought c.args.plan.now (length ws) c.args.marks.now a) _ _ e);
-      fits = bounded (length ws) a (extent m c.look.result) c.by-thing.result
+      which = c.by_thing.ensures.which ∙ ap (by_head m c.args.plan.now c.args.trace.now (length ws) a) c.look.ensures ∙ sym (cond-true (sought c.args.plan.now (length ws) c.args.marks.now a) _ _ e);
+      fits = bounded (length ws) a (extent m c.look.result) c.by_thing.result
           (omega (arith, ap (extent m) c.look.ensures, n, length-take (limit_of a - a) (drop a ws)))
           (omega (arith, ap (extent m) c.look.ensures, n, length-take (limit_of a - a) (drop a ws), i.1))
-          c.by-thing.ensures.fits;
+          c.by_thing.ensures.fits;
     }

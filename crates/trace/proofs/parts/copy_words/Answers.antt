@@ -13,7 +13,7 @@ returns c =
     let to = c.args.to in
     let k : a + n - a ≡ n = omega arith in
     let e : n ≡ length (part a n ws) = sym (length-take-le n (drop a ws) (omega (arith, length-drop a ws, c.requires))) in
-    c.copy-within.ensures.after
+    c.copy_within.ensures.after
     ∙ ap (paste ws to (drop a ws)) k
     ∙ ap (λ z. take to ws ++ z ++ drop (to + n) ws) (sym (take-take n n (drop a ws) (omega arith)))
     ∙ sym (put_mid-paste to n ws (part a n ws) (part a n ws) n refl refl e)

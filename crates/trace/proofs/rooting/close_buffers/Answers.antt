@@ -6,7 +6,7 @@ use Rattle.trace.proofs.rooting.close_buffers.Goals as goal
 pub loop-i-preserved : goal.loop-i-preserved
 loop-i-preserved g c =
     rw (add-one c.loop-i.i)
-    (c.pad-part.ensures
+    (c.pad_part.ensures
     ∙ ap (padded_part (g.F.Format.meaning c.args.format.now) (buffer_of c.args.buffers.now c.loop-i.i).init (buffer_of c.args.buffers.now c.loop-i.i).limit) c.loop-i.invariant)
 
 pub returns : goal.returns

@@ -6,7 +6,7 @@ use Rattle.trace.proofs.rooting.condemned_zones.Goals as goal
 pub loop-s-preserved : goal.loop-s-preserved
 loop-s-preserved c =
     rw (add-one c.loop-s.s)
-    (ap (bit_or c.loop-s.zones) c.condemned-zone-zones.ensures ∙ ap (λ z. bit_or z (zone_if c.args.plan.now c.args.segments.now c.loop-s.s)) c.loop-s.invariant)
+    (ap (bit_or c.loop-s.zones) c.condemned_zone-zones.ensures ∙ ap (λ z. bit_or z (zone_if c.args.plan.now c.args.segments.now c.loop-s.s)) c.loop-s.invariant)
 
 pub returns : goal.returns
 unfolding all_zones

@@ -9,7 +9,7 @@ loop-i-init g c = refl
 pub loop-i-preserved : goal.loop-i-preserved
 loop-i-preserved g c =
     rw (add-one c.loop-i.i)
-    (c.fix-register.ensures ∙ ap (λ x. root_fixed (g.F.Format.meaning c.args.format.now) c.args.plan.now x c.loop-i.i) c.loop-i.invariant)
+    (c.fix_register.ensures ∙ ap (λ x. root_fixed (g.F.Format.meaning c.args.format.now) c.args.plan.now x c.loop-i.i) c.loop-i.invariant)
 
 pub returns : goal.returns
 unfolding all_roots

@@ -7,7 +7,7 @@ use Rattle.trace.proofs.sweeping.stand_at.Goals as goal
 pub returns : goal.returns
 returns g c =
     let m = g.F.Format.meaning c.args.format.now in
-    let e = c.stand-of.ensures ∙ ap (stand_by c.args.marks.now c.args.at c.args.limit m) c.look.ensures in
+    let e = c.stand_of.ensures ∙ ap (stand_by c.args.marks.now c.args.at c.args.limit m) c.look.ensures in
     record {
       which = e;
       fits = subst (λ (x : Stand). (c.args.at < end_of x) × (end_of x ≤ c.args.limit)) (sym e) (stood_ends m c.args.words.now c.args.marks.now c.args.at c.args.limit c.requires.0);
