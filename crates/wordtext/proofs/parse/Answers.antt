@@ -1,5 +1,4 @@
 use Rattle.std.proofs.Common.{vec_items, sym, ap, ◌∙◌}
-use Rattle.std.proofs.lemmas.Result.{err_from_is_err_and}
 use Rattle.wordtext.specs.Texts.{after_words, words_of}
 use Rattle.wordtext.proofs.Pieces.{cut, words_white, words_more, words_bad, words_done}
 use Rattle.wordtext.proofs.Printed.{reads_back}
@@ -13,7 +12,7 @@ pub loop-at-preserved : goal.loop-at-preserved
 loop-at-preserved c =
     words_more c.args.text.now c.loop-at.at c.piece_end-end.result c.loop-at-test.true (sym c.if-is_white.ensures) c.piece_end-end.ensures.value
     (vec_items c.loop-at.words) (words_of c.args.text.now c.args.start) c.loop-at.invariant c.in-Ok.word (sym c.in-Ok.ensures)
-    ∙ ap (λ xs. after_words xs (words_of c.args.text.now c.piece_end-end.result)) (sym c.in_ok-push.ensures.items)
+    ∙ ap (λ xs. after_words xs (words_of c.args.text.now c.piece_end-end.result)) (sym c.in_ok-push-in-Ok.ensures.items)
 
 pub returns-in-Err : goal.returns-in-Err
 returns-in-Err c =
@@ -25,10 +24,11 @@ returns-in-Err c =
       back = reads_back;
     }
 
-pub returns-in_err-push : goal.returns-in_err-push
-returns-in_err-push c =
-    let p = err_from_is_err_and c.from-residual.result c.from-residual.ensures.1 in
-    record { words = rw (p.1, p.2) tt; longest = cut; back = reads_back }
+pub returns-in_err-push-in-Ok-clause-longest : goal.returns-in_err-push-in-Ok-clause-longest
+returns-in_err-push-in-Ok-clause-longest c = cut
+
+pub returns-in_err-push-in-Ok-clause-back : goal.returns-in_err-push-in-Ok-clause-back
+returns-in_err-push-in-Ok-clause-back c = reads_back
 
 pub returns : goal.returns
 returns c =

@@ -4,13 +4,13 @@ use Rattle.wordtext.proofs.Counts.{few_lines, few_columns, at_newline, at_other,
 use Rattle.wordtext.proofs.position.Goals as goal
 use Rattle.wordtext.proofs.position.Goals.{then-byte-eq10, else-byte-eq10}
 
-pub overflow-add-line : goal.overflow-add-line
-overflow-add-line c =
+pub overflow_add-line : goal.overflow_add-line
+overflow_add-line c =
     let bs = take (c.min.result - 0) c.args.text.now in
     omega (arith, few_lines bs c.loop-byte.byte-index c.loop-byte.line c.loop-byte.column c.loop-byte.invariant.0 c.loop-byte.invariant.1, length-take (c.min.result - 0) c.args.text.now)
 
-pub overflow-add-column : goal.overflow-add-column
-overflow-add-column c =
+pub overflow_add-column : goal.overflow_add-column
+overflow_add-column c =
     let bs = take (c.min.result - 0) c.args.text.now in
     omega (arith, few_columns bs c.loop-byte.byte-index c.loop-byte.line c.loop-byte.column c.loop-byte.invariant.0 c.loop-byte.invariant.1, length-take (c.min.result - 0) c.args.text.now)
 

@@ -4,8 +4,8 @@ use Rattle.std.proofs.lemmas.List.Sums.{sum_by_more}
 use Rattle.arena.proofs.BoardLaws.{board_laws, take_few}
 use Rattle.arena.proofs.boards.count_ones.Goals as goal
 
-pub overflow-add-sum : goal.overflow-add-sum
-overflow-add-sum c =
+pub overflow_add-sum : goal.overflow_add-sum
+overflow_add-sum c =
     let w = get_or c.args.board.now c.loop-i.i 0 in
     omega (arith, c.loop-i.invariant.1, c.loop-i-test.true, c.min-i-end.ensures, ones-le 32 w (omega (arith, c.type-inv.board c.loop-i.i)))
 

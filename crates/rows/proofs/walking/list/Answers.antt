@@ -9,8 +9,8 @@ returns-in_err-push g c = record {
   laws = row_law (g.F.Format.meaning c.args.format.now) c.args.words.now;
 }
 
-pub overflow-add-end : goal.overflow-add-end
-overflow-add-end g c =
+pub overflow_add-end : goal.overflow_add-end
+overflow_add-end g c =
     let i = entry_inside (g.F.Format.meaning c.args.format.now) c.args.words.now c.loop-next.end c.in-Some.next c.in-Some.ensures in
     omega (arith, i.1, c.extent-end.ensures)
 
