@@ -7,13 +7,13 @@ use Rattle.arena.proofs.boards.count_ones.Goals as goal
 pub overflow_add-sum : goal.overflow_add-sum
 overflow_add-sum c =
     let w = get_or c.args.board.now c.loop-i.i 0 in
-    omega (arith, c.loop-i.invariant.1, c.loop-i-test.true, c.min-i-end.ensures, ones-le 32 w (omega (arith, c.type-inv.board c.loop-i.i)))
+    omega (arith, c.loop-i.invariant.1, c.loop-i-test.true, c.min-i-end.ensures, ones-le 32 w (omega (arith, c.type_inv.board c.loop-i.i)))
 
 pub loop-i-preserved : goal.loop-i-preserved
 loop-i-preserved c =
     let w = get_or c.args.board.now c.loop-i.i 0 in (
       omega (arith, c.loop-i.invariant.0, sum_by_more ones c.args.board.now c.loop-i.i 0 (omega (arith, c.loop-i-test.true, c.min-i-end.ensures))),
-      omega (arith, c.loop-i.invariant.1, ones-le 32 w (omega (arith, c.type-inv.board c.loop-i.i))),
+      omega (arith, c.loop-i.invariant.1, ones-le 32 w (omega (arith, c.type_inv.board c.loop-i.i))),
     )
 
 pub returns : goal.returns

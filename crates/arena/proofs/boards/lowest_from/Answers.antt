@@ -12,7 +12,7 @@ pub returns-then-rest-ne0 : goal.returns-then-rest-ne0
 returns-then-rest-ne0 c =
     lowest_one c.args.board.now c.args.from _ (lowest_bit c.args.board.now c.args.from)
     (found_at_first c.args.board.now c.args.from (omega (arith, c.if-from-end.false, c.min-end.ensures))
-    (omega (arith, c.type-inv.board (c.args.from / 32))) (omega (arith, c.if-rest-ne0.true)))
+    (omega (arith, c.type_inv.board (c.args.from / 32))) (omega (arith, c.if-rest-ne0.true)))
     (lowest_is c.args.board.now c.args.from)
 
 pub returns-in-Some : goal.returns-in-Some
@@ -21,10 +21,10 @@ returns-in-Some c =
     let a = c.args.from in
     let i = c.in-Some.i in
     let e = c.in-Some.ensures in
-    let front = first_clear b a (omega (arith, c.if-from-end.false, c.min-end.ensures)) (omega (arith, c.type-inv.board (a / 32))) c.if-rest-ne0.false in
+    let front = first_clear b a (omega (arith, c.if-from-end.false, c.min-end.ensures)) (omega (arith, c.type_inv.board (a / 32))) c.if-rest-ne0.false in
     lowest_one b a _ (lowest_bit b a)
     (found_in_word b a i (omega (arith, e.1, c.min-end.ensures)) (omega (arith, e.0)) (clear_words b a (a / 32 + 1) i front e.3)
-    (omega (arith, e.2)) (omega (arith, c.type-inv.board i)))
+    (omega (arith, e.2)) (omega (arith, c.type_inv.board i)))
     (lowest_is b a)
 
 pub returns-in-None : goal.returns-in-None
@@ -32,7 +32,7 @@ returns-in-None c =
     let b = c.args.board.now in
     let a = c.args.from in
     let e = c.in-None.ensures in
-    let front = first_clear b a (omega (arith, c.if-from-end.false, c.min-end.ensures)) (omega (arith, c.type-inv.board (a / 32))) c.if-rest-ne0.false in
+    let front = first_clear b a (omega (arith, c.if-from-end.false, c.min-end.ensures)) (omega (arith, c.type_inv.board (a / 32))) c.if-rest-ne0.false in
     lowest_one b a None (lowest_bit b a)
     (found_none b a (rw c.min-end.ensures at (clear_words b a (a / 32 + 1) c.min-end.result front e)))
     (lowest_is b a)

@@ -10,14 +10,14 @@ returns-in-Stop g c =
     ∙ sym (found_stop (g.F.Format.meaning c.args.format.now) c.args.buffers.now c.args.words.now c.args.end c.args.size c.loop-next.run c.loop-next.place c.in-Stop.ensures)
     ∙ c.loop-next.invariant
 
-pub loop-next-smaller-in-Padding· : goal.loop-next-smaller-in-Padding·
-loop-next-smaller-in-Padding· g c =
+pub loop-next-smaller-in-Padding-1 : goal.loop-next-smaller-in-Padding-1
+loop-next-smaller-in-Padding-1 g c =
     let m = g.F.Format.meaning c.args.format.now in
     let o = subst (Onward c.args.end c.loop-next.place) (sym c.in-Padding.ensures) (onward m c.args.buffers.now c.args.words.now c.args.end c.loop-next.place) in
     omega (arith, o)
 
-pub loop-next-preserved-in-Padding· : goal.loop-next-preserved-in-Padding·
-loop-next-preserved-in-Padding· g c =
+pub loop-next-preserved-in-Padding-1 : goal.loop-next-preserved-in-Padding-1
+loop-next-preserved-in-Padding-1 g c =
     sym (found_padding (g.F.Format.meaning c.args.format.now) c.args.buffers.now c.args.words.now c.args.end c.args.size c.loop-next.run c.loop-next.place c.in-Padding.next c.in-Padding.ensures)
     ∙ c.loop-next.invariant
 

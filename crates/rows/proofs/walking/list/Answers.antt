@@ -5,7 +5,7 @@ use Rattle.rows.proofs.walking.list.Goals as goal
 
 pub returns-in_err-push : goal.returns-in_err-push
 returns-in_err-push g c = record {
-  listed = IfOk-from_err c.from-residual.result _ c.from-residual.ensures.0;
+  listed = IfOk-from_err c.from_residual.result _ c.from_residual.ensures.0;
   laws = row_law (g.F.Format.meaning c.args.format.now) c.args.words.now;
 }
 
