@@ -20,6 +20,7 @@ fn same(a: Step, b: Step) -> bool {
 // Each row is the thing at word 8 of 264, the buffers, the end of the row, and the step from word 8.
 fn check_steps<F: Format>(
     rt: &impl Abort,
+    name: &str,
     format: &F,
     rows: &[(Thing, &[Buffer], usize, Step)],
 ) -> Result<(), Fail> {
@@ -27,7 +28,7 @@ fn check_steps<F: Format>(
         let mut words = [OLD; 264];
         lay(rt, format, &mut words, 8, &[*thing])?;
         let found = next_step(format, buffers, &words, 8, *end);
-        assert!(rt; same(found, *step), "row {k}");
+        assert!(rt; same(found, *step), "{name}, row {k}");
     }
     Ok(())
 }
@@ -47,9 +48,10 @@ const EMPTY_AT_8: Buffer = Buffer { init: 8, limit: 8 };
 
 const BACKWARD_AT_8: Buffer = Buffer { init: 8, limit: 7 };
 
-fn check_all_steps<F: Format>(rt: &impl Abort, format: &F) -> Result<(), Fail> {
+fn check_all_steps<F: Format>(rt: &impl Abort, name: &str, format: &F) -> Result<(), Fail> {
     check_steps(
         rt,
+        name,
         format,
         &[
             (Object(5), &[], 264, Step::Thing(13)),
@@ -95,8 +97,8 @@ fn check_all_steps<F: Format>(rt: &impl Abort, format: &F) -> Result<(), Fail> {
 
 #[test]
 fn steps(rt: HostRuntime) -> Result<(), Fail> {
-    check_all_steps(&rt, &Counted).note("counted")?;
-    check_all_steps(&rt, &Tagged).note("tagged")
+    check_all_steps(&rt, "counted", &Counted)?;
+    check_all_steps(&rt, "tagged", &Tagged)
 }
 
 // An object is judged by its head alone: its one slot refers to 65,536, which it may not.
@@ -112,7 +114,12 @@ fn steps_by_heads(rt: HostRuntime) {
 
 // Each row is a place and an end in 600 words, and the header of the padding that is made there, with
 // 0 in its other words. No other word changes. A buffer there is closed so, and is then none.
-fn check_paddings<F: Format>(rt: &impl Abort, format: &F, rows: &[(usize, usize, Option<u32>)]) {
+fn check_paddings<F: Format>(
+    rt: &impl Abort,
+    name: &str,
+    format: &F,
+    rows: &[(usize, usize, Option<u32>)],
+) {
     for (k, (from, end, header)) in rows.iter().enumerate() {
         let from = *from;
         let end = *end;
@@ -124,28 +131,34 @@ fn check_paddings<F: Format>(rt: &impl Abort, format: &F, rows: &[(usize, usize,
         }
         let mut words = [OLD; 600];
         pad_part(format, &mut words, from, end);
-        assert_eq!(rt; &words[..], &after[..], "row {k}");
+        assert_eq!(rt; &words[..], &after[..], "{name}, row {k}");
         let mut words = [OLD; 600];
         let mut buffer = Buffer {
             init: from,
             limit: end,
         };
         close(format, &mut words, &mut buffer);
-        assert_eq!(rt; &words[..], &after[..], "row {k}, closed");
-        assert_eq!(rt; (buffer.init, buffer.limit), (0, 0), "row {k}, closed");
+        assert_eq!(rt; &words[..], &after[..], "{name}, row {k}, closed");
+        assert_eq!(rt;
+            (buffer.init, buffer.limit),
+            (0, 0),
+            "{name}, row {k}, closed"
+        );
     }
 }
 
 // The headers are those of paddings of 1, 2 and 256 words.
 fn check_all_paddings<F: Format>(
     rt: &impl Abort,
+    name: &str,
     format: &F,
     one: u32,
     two: u32,
     most: u32,
-) -> Result<(), Fail> {
+) {
     check_paddings(
         rt,
+        name,
         format,
         &[
             (0, 0, None),
@@ -167,13 +180,19 @@ fn check_all_paddings<F: Format>(
             (101, 100, None),
         ],
     );
-    Ok(())
 }
 
 #[test]
-fn paddings(rt: HostRuntime) -> Result<(), Fail> {
+fn paddings(rt: HostRuntime) {
     // 3 in bits 0 and 1, and the size from bit 2 on
-    check_all_paddings(&rt, &Counted, 3 + 4, 3 + 2 * 4, 3 + 256 * 4).note("counted")?;
+    check_all_paddings(&rt, "counted", &Counted, 3 + 4, 3 + 2 * 4, 3 + 256 * 4);
     // 3 in bits 30 and 31, and the size from bit 16 on
-    check_all_paddings(&rt, &Tagged, 0xc001_0000, 0xc002_0000, 0xc100_0000).note("tagged")
+    check_all_paddings(
+        &rt,
+        "tagged",
+        &Tagged,
+        0xc001_0000,
+        0xc002_0000,
+        0xc100_0000,
+    );
 }

@@ -21,6 +21,7 @@ type Fit = (usize, Option<(usize, usize)>);
 // Each row is the things of segment 1, from word 256 on, the buffers, and what is found there.
 fn check_segment<F: Format>(
     rt: &impl Abort,
+    name: &str,
     format: &F,
     rows: &[(&[Thing], &[Buffer], &[Fit])],
 ) -> Result<(), Fail> {
@@ -31,7 +32,7 @@ fn check_segment<F: Format>(
         lay(rt, format, &mut words, 256, things)?;
         for (size, run) in fits.iter() {
             let found = lowest_run(format, &segments, buffers, &words, 5, *size);
-            assert_eq!(rt; span(found), *run, "row {k}, {size} words");
+            assert_eq!(rt; span(found), *run, "{name}, row {k}, {size} words");
         }
     }
     Ok(())
@@ -65,9 +66,10 @@ const FROM_300_TO_512: Buffer = Buffer {
 // Paddings of the words from 256 to 266, to 300 and to 512.
 const THREE: [Thing; 3] = [Padding(10), Padding(34), Padding(212)];
 
-fn check_segment_rows<F: Format>(rt: &impl Abort, format: &F) -> Result<(), Fail> {
+fn check_segment_rows<F: Format>(rt: &impl Abort, name: &str, format: &F) -> Result<(), Fail> {
     check_segment(
         rt,
+        name,
         format,
         &[
             // no run: objects, things that are gone, and nothing
@@ -203,12 +205,12 @@ fn check_segment_rows<F: Format>(rt: &impl Abort, format: &F) -> Result<(), Fail
 
 #[test]
 fn runs_of_a_segment(rt: HostRuntime) -> Result<(), Fail> {
-    check_segment_rows(&rt, &Counted).note("counted")?;
-    check_segment_rows(&rt, &Tagged).note("tagged")
+    check_segment_rows(&rt, "counted", &Counted)?;
+    check_segment_rows(&rt, "tagged", &Tagged)
 }
 
 // Segments 1 and 3 are pool 6's; 2, 4 and 5 are pool 5's. They have runs of 100, 50, 256, 256 and 256 words.
-fn check_pools<F: Format>(rt: &impl Abort, format: &F) -> Result<(), Fail> {
+fn check_pools<F: Format>(rt: &impl Abort, name: &str, format: &F) -> Result<(), Fail> {
     let mut segments = Segments::new();
     segments.give(1, 6);
     segments.give(2, 5);
@@ -246,13 +248,13 @@ fn check_pools<F: Format>(rt: &impl Abort, format: &F) -> Result<(), Fail> {
         let len: usize = *len;
         assert!(rt; len <= 1_536);
         let found = lowest_run(format, &segments, &[], &words[0..len], *pool, *size);
-        assert_eq!(rt; span(found), *run, "row {k}");
+        assert_eq!(rt; span(found), *run, "{name}, row {k}");
     }
     Ok(())
 }
 
 #[test]
 fn runs_of_pools(rt: HostRuntime) -> Result<(), Fail> {
-    check_pools(&rt, &Counted).note("counted")?;
-    check_pools(&rt, &Tagged).note("tagged")
+    check_pools(&rt, "counted", &Counted)?;
+    check_pools(&rt, "tagged", &Tagged)
 }

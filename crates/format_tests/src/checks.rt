@@ -140,10 +140,11 @@ pub fn check_fresh<F: Format>(
 fn check_change<F: Format>(
     rt: &impl Abort,
     format: &F,
+    row: usize,
     before: &[u32],
     write: Write,
     answer: Result<&[u32], u8>,
-) -> Result<(), Fail> {
+) {
     let (after, done) = match answer {
         Ok(after) => (after, Ok(())),
         Err(number) => (before, Err(number)),
@@ -153,9 +154,8 @@ fn check_change<F: Format>(
     let mut words = [OLD; 4];
     let own = &mut words[0..len];
     own.copy_from_slice(before);
-    assert_eq!(rt; perform(format, own, write), done);
-    assert_eq!(rt; &*own, after);
-    Ok(())
+    assert_eq!(rt; perform(format, own, write), done, "row {row}");
+    assert_eq!(rt; &*own, after, "row {row}");
 }
 
 // Each row is what is written over an object's words, and the words after; or the number by which
@@ -167,7 +167,7 @@ pub fn check_changes<F: Format>(
     rows: &[(Write, Result<&[u32], u8>)],
 ) -> Result<(), Fail> {
     for (k, (write, answer)) in rows.iter().enumerate() {
-        check_change(rt, format, before, *write, *answer).note(format_args!("row {k}"))?;
+        check_change(rt, format, k, before, *write, *answer);
     }
     Ok(())
 }
@@ -187,7 +187,7 @@ pub fn check_no_object<F: Format>(
     ];
     for (k, words) in rows.iter().enumerate() {
         for write in writes.iter() {
-            check_change(rt, format, words, *write, Err(7)).note(format_args!("row {k}"))?;
+            check_change(rt, format, k, words, *write, Err(7));
         }
     }
     Ok(())

@@ -86,11 +86,10 @@ pub fn give<F: Format>(
 // ---- collecting
 
 // Every word is the same.
-pub fn check_all(rt: &impl Abort, words: &[u32], all: u32) -> Result<(), Fail> {
+pub fn check_all(rt: &impl Abort, name: &str, words: &[u32], all: u32) {
     for word in words {
-        assert_eq!(rt; *word, all);
+        assert_eq!(rt; *word, all, "{name}");
     }
-    Ok(())
 }
 
 // Collects, and looks that the boards are clear.
@@ -104,8 +103,8 @@ pub fn run_on<F: Format>(
     pools: u8,
 ) -> Result<u32, Fail> {
     let value = collect(format, arena, words, marks, greys, pools)?;
-    check_all(rt, marks, 0).note("marks")?;
-    check_all(rt, greys, 0).note("greys")?;
+    check_all(rt, "marks", marks, 0);
+    check_all(rt, "greys", greys, 0);
     Ok(value)
 }
 

@@ -25,29 +25,29 @@ fn answer<F: Format>(
 fn check_unchanged<F: Format>(
     rt: &impl Abort,
     format: &F,
+    row: usize,
     words: &mut [u32],
     marks: &mut [u32],
     greys: &mut [u32],
-) -> Result<(), Fail> {
+) {
     let mut arena = new_arena();
     arena.segments.give(1, 0);
     arena.registers[0] = 256;
-    assert_eq!(rt; answer(format, &mut arena, words, marks, greys), 7);
-    check_all(rt, words, 7)?;
-    check_all(rt, marks, 5)?;
-    check_all(rt, greys, 3)?;
-    assert_eq!(rt; pool_of(&arena, 1), 0);
-    assert_eq!(rt; arena.registers[0], 256);
-    assert_eq!(rt; arena.history.epoch(), 0);
-    Ok(())
+    assert_eq!(rt;
+        answer(format, &mut arena, words, marks, greys),
+        7,
+        "row {row}"
+    );
+    check_all(rt, "words", words, 7);
+    check_all(rt, "marks", marks, 5);
+    check_all(rt, "greys", greys, 3);
+    assert_eq!(rt; pool_of(&arena, 1), 0, "row {row}");
+    assert_eq!(rt; arena.registers[0], 256, "row {row}");
+    assert_eq!(rt; arena.history.epoch(), 0, "row {row}");
 }
 
 // Each row is how many words there are, how many of the mark board, and how many of the grey board.
-fn check_refused<F: Format>(
-    rt: &impl Abort,
-    format: &F,
-    rows: &[(usize, usize, usize)],
-) -> Result<(), Fail> {
+fn check_refused<F: Format>(rt: &impl Abort, format: &F, rows: &[(usize, usize, usize)]) {
     for (k, (len, m, g)) in rows.iter().enumerate() {
         let len = *len;
         let m = *m;
@@ -59,13 +59,12 @@ fn check_refused<F: Format>(
         check_unchanged(
             rt,
             format,
+            k,
             &mut words[0..len],
             &mut marks[0..m],
             &mut greys[0..g],
-        )
-        .note(format_args!("row {k}"))?;
+        );
     }
-    Ok(())
 }
 
 const WRONG: [(usize, usize, usize); 8] = [
@@ -118,7 +117,7 @@ fn check_left<F: Format>(
     words: &mut [u32],
     marks: &mut [u32],
     greys: &mut [u32],
-) -> Result<(), Fail> {
+) {
     let epoch = arena.history.epoch();
     arena.segments.give(1, 0);
     arena.registers[0] = 256;
@@ -127,15 +126,14 @@ fn check_left<F: Format>(
         limit: 512,
     };
     assert_eq!(rt; answer(format, arena, words, marks, greys), number);
-    check_all(rt, words, 7)?;
-    check_all(rt, marks, 5)?;
-    check_all(rt, greys, 3)?;
+    check_all(rt, "words", words, 7);
+    check_all(rt, "marks", marks, 5);
+    check_all(rt, "greys", greys, 3);
     assert_eq!(rt; pool_of(arena, 1), 0);
     assert_eq!(rt; arena.registers[0], 256);
     assert_eq!(rt; arena.buffers[0].init, 300);
     assert_eq!(rt; arena.buffers[0].limit, 512);
     assert_eq!(rt; arena.history.epoch(), epoch);
-    Ok(())
 }
 
 // After 1,000,000 ageings there is no collection; wrong lengths are told first.
@@ -149,7 +147,7 @@ fn check_spent<F: Format>(rt: &impl Abort, format: &F) -> Result<(), Fail> {
     let mut greys = [3; 32];
     check_left(
         rt, format, 30, &mut arena, &mut words, &mut marks, &mut greys,
-    )?;
+    );
     check_left(
         rt,
         format,
@@ -158,7 +156,8 @@ fn check_spent<F: Format>(rt: &impl Abort, format: &F) -> Result<(), Fail> {
         &mut words,
         &mut marks[0..31],
         &mut greys,
-    )
+    );
+    Ok(())
 }
 
 #[test]
@@ -168,9 +167,9 @@ fn no_collection_is_left(rt: HostRuntime) -> Result<(), Fail> {
 }
 
 #[test]
-fn wrong_lengths(rt: HostRuntime) -> Result<(), Fail> {
-    check_refused(&rt, &Counted, &WRONG)?;
-    check_refused(&rt, &Tagged, &WRONG)
+fn wrong_lengths(rt: HostRuntime) {
+    check_refused(&rt, &Counted, &WRONG);
+    check_refused(&rt, &Tagged, &WRONG);
 }
 
 // No thing, an object of one word, an object of three with references, a forwarding, a padding.
