@@ -38,6 +38,7 @@ def defined(text):
             continue
         for m in re.finditer(rf"({NAME}(?:\s+{NAME})*)\s+:\s", line):
             names.update(m.group(1).split())
+        names.update(re.findall(rf"\b(?:record|data) ({NAME})", line))
         names.update(re.findall(rf"\blet ({NAME}) =", line))
         for m in re.finditer(rf"λ ((?:{NAME}\s*)+)\.", line):
             names.update(m.group(1).split())

@@ -5,7 +5,7 @@ use lib.Count.{ones}
 use Rattle.std.proofs.lemmas.List.{get_or-set_same, get_or-set_other, set_past, get_or_past, get_or-take, length-take, take_all}
 use Rattle.std.proofs.lemmas.List.Sums.{sum_by-set}
 use Rattle.std.proofs.lemmas.Bool.{cases_eq, cases_lt, eqb-false}
-use Rattle.arena.specs.Boards.{bit_of, bit, with_bit, without_bit, reach, ones_of, Laws-of, BoardLaws}
+use Rattle.arena.specs.Boards.{bit_of, bit, with_bit, without_bit, reach, ones_of, LawsOf, BoardLaws}
 use Rattle.arena.proofs.Bits.{bit_n, set_same, set_other, clear_same, clear_other, ones_set}
 use Rattle.arena.proofs.Lowest.{zero_bit, lowest_is}
 
@@ -63,7 +63,7 @@ module _ (b : List ℕ) where
       let t : ones_of (with_bit b a) ≡ sum_by ones (set (take 2048 b) (a / 32) v) = ap (sum_by ones) (take_set_in 2048 b (a / 32) v (omega arith)) in
       omega (arith, s, e, t, ones_set (a % 32) w z)
 
-  pub laws_of : Laws-of b
+  pub laws_of : LawsOf b
   laws_of = record {
     set_same = with_same;
     set_other = λ a k ne. other_stays a _ k ne (λ n l d. set_other (get_or b (a / 32) 0) (a % 32) n d);

@@ -45,7 +45,7 @@ abbrev pub Words : List ℕ → Type 0
 Words b = (i : ℕ) → slice_index b i < 2 ^ 32
 
 -- A bit after it was set or cleared, and after another one was; how many are set then; the lowest.
-pub record Laws-of (b : List ℕ) : Type 0 where
+pub record LawsOf (b : List ℕ) : Type 0 where
   pub set_same : (a : ℕ) → a < reach b → bit (with_bit b a) a ≡ true
   pub set_other : (a k : ℕ) → k ≢ a → bit (with_bit b a) k ≡ bit b k
   pub cleared_same : (a : ℕ) → bit (without_bit b a) a ≡ false
@@ -54,4 +54,4 @@ pub record Laws-of (b : List ℕ) : Type 0 where
   pub lowest : (a : ℕ) → Lowest b a (lowest_bit b a)
 
 abbrev pub BoardLaws : Type 0
-BoardLaws = (b : List ℕ) → Words b → Laws-of b
+BoardLaws = (b : List ℕ) → Words b → LawsOf b

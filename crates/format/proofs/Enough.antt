@@ -12,7 +12,7 @@ use Rattle.format.specs.declared.things.Kind.TheVariants.{References, Numbers, B
 use Rattle.format.specs.Meaning.{Meaning, shape, may_hold, holds, blank, blanks, extent, in_range, nothing, object, forwarded, padding, thing, reads, span}
 use Rattle.format.specs.Laws.{Makes, Lawful}
 use Rattle.format.proofs.Slots.{same_map, all_decides}
-use Rattle.format.proofs.Heads.{slots_of, range_allowed, range_extent, range_from, Read, reads_is, read_back, span_read, object_reads, Object-read, object_read, object_slot, object_holds}
+use Rattle.format.proofs.Heads.{slots_of, range_allowed, range_extent, range_from, Read, reads_is, read_back, span_read, object_reads, ObjectRead, object_read, object_slot, object_holds}
 
 -- two lists of words that agree in the first k
 abbrev pub Alike : ℕ → List ℕ → List ℕ → Type 0
@@ -108,7 +108,7 @@ module _ (m : Meaning) (w : Enough m) where
     abbrev sh : Shape
     sh = shape l (length ss)
 
-    abbrev was : Object-read m ws l ss
+    abbrev was : ObjectRead m ws l ss
     was = object_read m ws l ss e
 
     -- what holds of the new value at slot i, and of the others as they were, holds of each slot after

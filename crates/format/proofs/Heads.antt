@@ -142,7 +142,7 @@ module _ (m : Meaning) (ws : List ℕ) where
   span_read x = ap (span m) (reads_is (m.head ws) (read_back x)) ∙ span_thing m (λ s. m.slot s ws) (m.head ws)
 
 -- what an object's reading says of its words
-pub record Object-read (m : Meaning) (ws : List ℕ) (l : ℕ) (ss : List Slot) : Type 0 where
+pub record ObjectRead (m : Meaning) (ws : List ℕ) (l : ℕ) (ss : List Slot) : Type 0 where
   pub read : Read m ws (Object (shape l (length ss)))
   pub slots : ss ≡ slots_of m ws (shape l (length ss))
 
@@ -154,7 +154,7 @@ module _ (m : Meaning) (ws : List ℕ) (l : ℕ) (ss : List Slot) where
       let r : s.n ≡ length ss = sym (length-map-range_with_len (m.slot s ws) 0 s.n) ∙ ap length q in
       λ i. record { layout = p i; n = r i }
 
-  object_back : (h : Head) → Read m ws h → thing (λ s. m.slot s ws) h ≡ object l ss → Object-read m ws l ss
+  object_back : (h : Head) → Read m ws h → thing (λ s. m.slot s ws) h ≡ object l ss → ObjectRead m ws l ss
   object_back Nothing r e = absurd (not_nothing l ss (sym e))
   object_back (Object s) r e =
       let q : slots_of m ws s ≡ ss = cc in
@@ -166,15 +166,15 @@ module _ (m : Meaning) (ws : List ℕ) (l : ℕ) (ss : List Slot) where
   object_back (Forwarded k to) r e = absurd (let z : ◌≡◌ {A = ℕ} 0 1 = cc in omega arith)
   object_back (Padding k) r e = absurd (let z : ◌≡◌ {A = ℕ} 0 1 = cc in omega arith)
 
-  pub object_read : reads m ws ≡ object l ss → Object-read m ws l ss
+  pub object_read : reads m ws ≡ object l ss → ObjectRead m ws l ss
   object_read e =
       let x : reads m ws ≢ nothing = λ d. not_nothing l ss (sym e ∙ d) in
       object_back (m.head ws) (read_back m ws x) (sym (reads_is m ws (m.head ws) (read_back m ws x)) ∙ e)
 
-  pub object_slot : Object-read m ws l ss → (i : ℕ) (d : Slot) → i < length ss → get_or ss i d ≡ m.slot (shape l (length ss)) ws i
+  pub object_slot : ObjectRead m ws l ss → (i : ℕ) (d : Slot) → i < length ss → get_or ss i d ≡ m.slot (shape l (length ss)) ws i
   object_slot r i d b =
       ap (λ z. get_or z i d) r.slots ∙ get_or-map-range_with_len (m.slot (shape l (length ss)) ws) 0 (length ss) i i d b (omega arith)
 
-  pub object_holds : Object-read m ws l ss → (i : ℕ) → i < length ss → holds m (shape l (length ss)) i (m.slot (shape l (length ss)) ws i) ≡ true
+  pub object_holds : ObjectRead m ws l ss → (i : ℕ) → i < length ss → holds m (shape l (length ss)) i (m.slot (shape l (length ss)) ws i) ≡ true
   object_holds r i b =
       (all_decides (λ k. holds m (shape l (length ss)) k (m.slot (shape l (length ss)) ws k)) (length ss)).0 r.read.slots i b

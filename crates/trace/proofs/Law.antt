@@ -21,9 +21,9 @@ use Rattle.format.specs.declared.refusals.Refusal.{Refusal}
 use Rattle.format.specs.declared.refusals.Refusal.TheVariants.{WrongLength, CollectionsSpent}
 use Rattle.location.specs.Locations.{zone_of, has_zone, can_age}
 use Rattle.trace.specs.Collect.{Held, fits, plan_of, untraced, begun, before_sweep, after_sweep, ended, performed, held_aged, answering, refused}
-use Rattle.trace.specs.Collect.{Outcome as Outcome-of}
-use Rattle.trace.specs.Keeping.{Space, space, is_base, is_owned, Leads, place, Follows, SlotFollows, Keeps, closed_space, Sound-arena, KeptBy, CollectionsKeep}
-use Rattle.trace.specs.Keeping.{Sound as Sound-space}
+use Rattle.trace.specs.Collect.{Outcome as OutcomeOf}
+use Rattle.trace.specs.Keeping.{Space, space, is_base, is_owned, Leads, place, Follows, SlotFollows, Keeps, closed_space, SoundArena, KeptBy, CollectionsKeep}
+use Rattle.trace.specs.Keeping.{Sound as SoundSpace}
 use Rattle.trace.proofs.Cells.{slots_of, layout_of, owner, target, marked, grey, rd, owner0, leafy, Start, Std, size0, layout0, slots0, Obj, Names, Final, stay, move, Settled, empty, settled, Inv, Grows, Sound}
 use Rattle.trace.proofs.Facts.{get_or_all, stays_by_mark, stays_by_zone, leaves, settled_grows, grows_trans}
 use Rattle.trace.proofs.Putting.{inv_todo, final_body}
@@ -42,7 +42,7 @@ use Rattle.trace.proofs.Whole.{swept_all, closed_up, traced_steps, condemned_at,
 clear_bit_of : (n p : ℕ) → bit (replicate n 0) p ≡ false
 clear_bit_of n p = ap (λ w. bit_of w (p % 32)) (get_or_all n (p / 32) 0) ∙ zero_bit (p % 32)
 
-module _ (m : Meaning) (laws : Lawful m) (h : Held) (pools : ℕ) (sa : Sound-arena m h) where
+module _ (m : Meaning) (laws : Lawful m) (h : Held) (pools : ℕ) (sa : SoundArena m h) where
   abbrev y : Plan
   y = plan_of h.arena pools
 
@@ -220,7 +220,7 @@ module _ (m : Meaning) (laws : Lawful m) (h : Held) (pools : ℕ) (sa : Sound-ar
   abbrev after : Space
   after = space swept.words swept.segments
 
-  sound_after : Sound-space m y.classes after
+  sound_after : SoundSpace m y.classes after
   sound_after = arena_next S ok laws u inv_u shut sa.space.rows standing based used swept.words swept.segments out white swept_ok.long (swept_ok.many ∙ inv_u.ready.owners)
 
   registered : (i : ℕ) → i < 16 → Settled S u (get_or h.arena.registers i 0) (get_or x2.roots i 0)
@@ -305,18 +305,18 @@ module _ (m : Meaning) (laws : Lawful m) (h : Held) (pools : ℕ) (sa : Sound-ar
     white = kept_by_u.white;
   }
 
-  sound_by_v : Sound-arena m (ended (held_aged h pools) (rooted x2.roots v) swept)
+  sound_by_v : SoundArena m (ended (held_aged h pools) (rooted x2.roots v) swept)
   sound_by_v =
       let e = unclosed m swept.words in
       record {
-        space = subst (λ (ws : List ℕ). Sound-space m y.classes (space ws swept.segments)) (sym e) sound_after;
+        space = subst (λ (ws : List ℕ). SoundSpace m y.classes (space ws swept.segments)) (sym e) sound_after;
         registers = λ i l. subst (λ (ws : List ℕ). Leads m (space ws swept.segments) (get_or x2.roots i 0)) (sym e) (leads_after (get_or h.arena.registers i 0) (get_or x2.roots i 0) (registered i l));
         marks = board_after h.marks sa.marks;
         greys = board_after h.greys sa.greys;
       }
 
   abbrev Kept : Rooted → Ground → Type 0
-  Kept x g = Sound-arena m (ended (held_aged h pools) x g) × Keeps m y (closed_space m h) x.heap (space g.words g.segments) h.arena.ambiguous h.arena.registers x.roots
+  Kept x g = SoundArena m (ended (held_aged h pools) x g) × Keeps m y (closed_space m h) x.heap (space g.words g.segments) h.arena.ambiguous h.arena.registers x.roots
 
   kept_before : Kept (before_sweep m y h) (after_sweep m y (before_sweep m y h))
   kept_before =
@@ -328,7 +328,7 @@ module _ (m : Meaning) (laws : Lawful m) (h : Held) (pools : ℕ) (sa : Sound-ar
 
 pub collections_keep : CollectionsKeep
 collections_keep m laws h pools sa f c =
-    subst (λ (o : Outcome-of (Result ℕ Refusal)). KeptBy m (plan_of h.arena pools) h o.after)
+    subst (λ (o : OutcomeOf (Result ℕ Refusal)). KeptBy m (plan_of h.arena pools) h o.after)
     (sym (cond-true (fits m (length h.words) (length h.marks) (length h.greys)) _ (refused WrongLength h) f
     ∙ cond-true (can_age h.arena.history) (answering (performed m (plan_of h.arena pools) (held_aged h pools))) (refused CollectionsSpent h) c))
     (performed_keeps m laws h pools sa)

@@ -48,12 +48,12 @@ module _ (S : Start) (ok : Sound S) (laws : Lawful S.meaning) where
       }
 
   -- the lowest grey object, by the bound
-  record Lowest-grey (t : Heap) (p : ℕ) : Type 0 where
+  record LowestGrey (t : Heap) (p : ℕ) : Type 0 where
     is : grey t p ≡ true
     lowest : (c : ℕ) → grey t c ≡ true → p ≤ c
     below : p < length S.space.words
 
-  found_grey : (Todo : ℕ → Type 0) (t : Heap) → Inv S Todo t → (p : ℕ) → lowest_bit t.greys t.state.low ≡ Some p → Lowest-grey t p
+  found_grey : (Todo : ℕ → Type 0) (t : Heap) → Inv S Todo t → (p : ℕ) → lowest_bit t.greys t.state.low ≡ Some p → LowestGrey t p
   found_grey Todo t inv p e =
       let l = subst (Lowest t.greys t.state.low) e ((laws_of t.greys).lowest t.state.low) in
       record {

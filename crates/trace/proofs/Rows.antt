@@ -13,7 +13,7 @@ use Rattle.arena.specs.declared.segments.Owner.TheVariants.{Free, Pool}
 use Rattle.arena.specs.Segments.{owner_of}
 use Rattle.trace.specs.Traces.{condemns, Heap}
 use Rattle.trace.specs.Keeping.{Piece, Row, ends, piece, is_base, is_owned, ObjectAt, Leads, SlotLeads, SlotLeaf}
-use Rattle.trace.specs.Keeping.{Sound as Sound-space}
+use Rattle.trace.specs.Keeping.{Sound as SoundSpace}
 use Rattle.trace.proofs.Cells.{Apart, slots_of, layout_of, owner, target, marked, grey, stays, rd, owner0, leafy, Start, Std, thing0, size0, layout0, slots0, Obj, Fits, AllFit, Moved, Cell, same, copy, Names, null, names, Final, stay, move, Settled, empty, Body, Held, here, still, Clean, Null, Room, unused, ahead, Owned, Inv, Sound}
 use Rattle.trace.proofs.Facts.{not_staying}
 use Rattle.trace.proofs.Marking.{unmoved}
@@ -104,7 +104,7 @@ owner_is (Pool p) h = (p, refl)
 pub self_object : (x : Thing) (l : ℕ) (ss : List Slot) → x ≡ object l ss → x ≡ object (layout_of x) (slots_of x)
 self_object x l ss e = subst (λ (z : Thing). z ≡ object (layout_of z) (slots_of z)) (sym e) refl
 
-module _ (S : Start) (laws : Lawful S.meaning) (ar : Sound-space S.meaning S.plan.classes S.space) where
+module _ (S : Start) (laws : Lawful S.meaning) (ar : SoundSpace S.meaning S.plan.classes S.space) where
   abbrev M : Meaning
   M = S.meaning
 

@@ -11,7 +11,7 @@ use Rattle.arena.specs.declared.segments.Segments.{Segments}
 use Rattle.arena.specs.Segments.{owner_of}
 use Rattle.trace.specs.Traces.{condemns, Heap}
 use Rattle.trace.specs.Keeping.{space, Piece, Row, ends, piece, is_base, is_owned, SlotLeads, SlotLeaf}
-use Rattle.trace.specs.Keeping.{Sound as Sound-space}
+use Rattle.trace.specs.Keeping.{Sound as SoundSpace}
 use Rattle.trace.proofs.Cells.{slots_of, layout_of, owner, target, marked, grey, stays, rd, owner0, leafy, Start, Std, thing0, size0, layout0, slots0, Obj, Fits, AllFit, Moved, same, copy, Names, null, names, Final, stay, move, Settled, empty, settled, Held, here, away, still, Clean, Null, unused, Front, Inv, Sound}
 use Rattle.trace.proofs.Facts.{object_not_padding, stays_by_zone, stays_by_mark, cell_real, not_staying}
 use Rattle.trace.proofs.Putting.{final_body}
@@ -306,7 +306,7 @@ module _ (S : Start) (ok : Sound S) (laws : Lawful S.meaning) (t : Heap) (inv : 
         go (tidy c f x) = sym f ∙ e
         go (wiped c f x wz) = absurd (pool_not_free p (owner_of g' s) e f)
 
-    pub arena_next : length k ≡ length m → length g'.owners ≡ 256 → Sound-space M S.plan.classes T.space
+    pub arena_next : length k ≡ length m → length g'.owners ≡ 256 → SoundSpace M S.plan.classes T.space
     arena_next long many = record {
       whole = (ap (λ (n : ℕ). n % 256) long ∙ inv.ready.whole, omega (arith, long, inv.ready.few), omega (arith, long, inv.long, ok.top));
       owners = many;

@@ -12,7 +12,7 @@ use Rattle.arena.specs.Buffers.{padded_part}
 use Rattle.trace.specs.declared.sweeping.Stand.{Stand}
 use Rattle.trace.specs.declared.sweeping.Stand.TheVariants.{Kept, Loose}
 use Rattle.trace.specs.Traces.{stand_by, stood, end_of, walked, row_by, thing_swept, thing_end}
-use Rattle.trace.specs.Traces.{Row as Sweep-row, row as sweep-row}
+use Rattle.trace.specs.Traces.{Row as SweepRow, row as sweep_row}
 use Rattle.trace.specs.Keeping.{Piece, Row, ends, piece}
 use Rattle.trace.proofs.Cells.{slots_of, layout_of, rd, Start}
 use Rattle.trace.proofs.Facts.{Real, real_object, real_padding}
@@ -277,16 +277,16 @@ module _ (S : Start) (laws : Lawful S.meaning) where
       ap (stand_by ms a e S.meaning) (seen_object S.meaning laws m a (layout_of (rd S m a)) (slots_of (rd S m a)) ob e (subst (λ (n : ℕ). a + n ≤ e) z h))
       ∙ cond-true (bit ms a) _ _ u ∙ ap (λ (n : ℕ). Kept (a + n)) (sym z)
 
-  abbrev walk : List ℕ → ℕ → ℕ → Sweep-row → ℕ → Sweep-row
+  abbrev walk : List ℕ → ℕ → ℕ → SweepRow → ℕ → SweepRow
   walk ms e k r a = walked (thing_swept S.meaning ms e) (thing_end S.meaning ms e) e k r a
 
-  pub record Walked (ms : List ℕ) (e g a : ℕ) (m : List ℕ) (r : Sweep-row) : Type 0 where
+  pub record Walked (ms : List ℕ) (e g a : ℕ) (m : List ℕ) (r : SweepRow) : Type 0 where
     pub swept : Swept ms e g a m (pad r.run e r.words)
     pub low : g ≤ r.run
     pub high : r.run ≤ e
     pub which : (((r.words ≡ m) × (r.run ≡ g)) × ((q : ℕ) → Base S m e a q → bit ms q ≡ false)) ⊎ (a < r.run)
 
-  walk_end : (ms : List ℕ) (e g : ℕ) (m : List ℕ) → g ≤ e → e - g ≤ 256 → e ≤ length m → Walked ms e g e m (sweep-row m g)
+  walk_end : (ms : List ℕ) (e g : ℕ) (m : List ℕ) → g ≤ e → e - g ≤ 256 → e ≤ length m → Walked ms e g e m (sweep_row m g)
   walk_end ms e g m l small f = record {
     swept = swept_end ms e g m l small f;
     low = omega arith;
@@ -294,17 +294,17 @@ module _ (S : Start) (laws : Lawful S.meaning) where
     which = inl ((refl, refl), λ q b. absurd (omega (arith, (base_inv S m e e q b).0)));
   }
 
-  walk_step : (ms : List ℕ) (e k g a : ℕ) (m : List ℕ) (d : Stand) → a < e → stood S.meaning m ms a e ≡ d → walk ms e (suc k) (sweep-row m g) a ≡ walk ms e k (row_by S.meaning (sweep-row m g) a d) (end_of d)
+  walk_step : (ms : List ℕ) (e k g a : ℕ) (m : List ℕ) (d : Stand) → a < e → stood S.meaning m ms a e ≡ d → walk ms e (suc k) (sweep_row m g) a ≡ walk ms e k (row_by S.meaning (sweep_row m g) a d) (end_of d)
   walk_step ms e k g a m d low f =
-      cond-true (ltb a e) _ (sweep-row m g) (lt-ltb a e low)
-      ∙ ap (λ (x : Stand). walk ms e k (row_by S.meaning (sweep-row m g) a x) (end_of x)) f
+      cond-true (ltb a e) _ (sweep_row m g) (lt-ltb a e low)
+      ∙ ap (λ (x : Stand). walk ms e k (row_by S.meaning (sweep_row m g) a x) (end_of x)) f
 
   pub sweep_ok : (ms : List ℕ) (e k g a : ℕ) (m : List ℕ) → e ≤ a + k → g ≤ a → e - g ≤ 256 → e ≤ length m → Chain S m e a
       → ((q : ℕ) → Base S m e a q → bit ms q ≡ true → rd S m q ≡ object (layout_of (rd S m q)) (slots_of (rd S m q)))
-      → Walked ms e g a m (walk ms e k (sweep-row m g) a)
+      → Walked ms e g a m (walk ms e k (sweep_row m g) a)
   sweep_ok ms e zero g a m fuel l small f stop ob = walk_end ms e g m l small f
   sweep_ok ms e (suc k) g a m fuel l small f stop ob =
-      subst (Walked ms e g e m) (sym (cond-false (ltb e e) _ (sweep-row m g) (le-ltb e e (omega arith)))) (walk_end ms e g m l small f)
+      subst (Walked ms e g e m) (sym (cond-false (ltb e e) _ (sweep_row m g) (le-ltb e e (omega arith)))) (walk_end ms e g m l small f)
   sweep_ok ms e zero g a m fuel l small f (link b n h r) ob = absurd (omega (arith, n.some))
   sweep_ok ms e (suc k) g a m fuel l small f (link b n h r) ob =
       go (λ x. sweep_ok ms e k g (a + span S.meaning (rd S m a)) m (omega (arith, n.some)) (omega arith) small f r (λ q y. ob q (next a q low y)))
@@ -325,13 +325,13 @@ module _ (S : Start) (laws : Lawful S.meaning) where
       a' : ℕ
       a' = a + span S.meaning (rd S m a)
 
-      go : (Unit {0} → Walked ms e g a' m (walk ms e k (sweep-row m g) a')) → (Unit {0} → Walked ms e a' a' (pad g a m) (walk ms e k (sweep-row (pad g a m) a') a'))
-          → (bit ms a ≡ true) ⊎ (bit ms a ≡ false) → Walked ms e g a m (walk ms e (suc k) (sweep-row m g) a)
+      go : (Unit {0} → Walked ms e g a' m (walk ms e k (sweep_row m g) a')) → (Unit {0} → Walked ms e a' a' (pad g a m) (walk ms e k (sweep_row (pad g a m) a') a'))
+          → (bit ms a ≡ true) ⊎ (bit ms a ≡ false) → Walked ms e g a m (walk ms e (suc k) (sweep_row m g) a)
       go skip keep (inl mk) =
           let s = keep tt in
           subst (Walked ms e g a m) (sym (walk_step ms e k g a m (Kept a') low (stood_kept ms m e a (ob a (first a low) mk) h mk)))
           (record {
-            swept = swept_keep ms e g a m (pad (walk ms e k (sweep-row (pad g a m) a') a').run e (walk ms e k (sweep-row (pad g a m) a') a').words) l (omega arith) low f mk (ob a (first a low) mk) n h r s.swept;
+            swept = swept_keep ms e g a m (pad (walk ms e k (sweep_row (pad g a m) a') a').run e (walk ms e k (sweep_row (pad g a m) a') a').words) l (omega arith) low f mk (ob a (first a low) mk) n h r s.swept;
             low = omega (arith, s.low);
             high = s.high;
             which = inr (omega (arith, s.low, n.some));
@@ -340,7 +340,7 @@ module _ (S : Start) (laws : Lawful S.meaning) where
           let s = skip tt in
           subst (Walked ms e g a m) (sym (walk_step ms e k g a m (Loose a') low (stood_loose ms m e a n h un)))
           (record {
-            swept = swept_skip ms e g a m (pad (walk ms e k (sweep-row m g) a').run e (walk ms e k (sweep-row m g) a').words) low un s.swept;
+            swept = swept_skip ms e g a m (pad (walk ms e k (sweep_row m g) a').run e (walk ms e k (sweep_row m g) a').words) low un s.swept;
             low = s.low;
             high = s.high;
             which = elim s.which [

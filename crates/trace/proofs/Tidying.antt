@@ -15,7 +15,7 @@ use Rattle.arena.specs.Boards.{bit}
 use Rattle.arena.specs.Segments.{owner_of, in_arena, freed, freed_words}
 use Rattle.trace.specs.declared.state.Plan.{Plan}
 use Rattle.trace.specs.Traces.{swept_row, last_words, last_segments, swept_words, swept_segments}
-use Rattle.trace.specs.Traces.{Row as Sweep-row}
+use Rattle.trace.specs.Traces.{Row as SweepRow}
 use Rattle.trace.specs.Collections.{Ground, ground, segment_swept, segments_swept}
 use Rattle.trace.specs.Keeping.{Row}
 use Rattle.trace.proofs.Cells.{slots_of, layout_of, rd, Start}
@@ -134,7 +134,7 @@ module _ (S : Start) (laws : Lawful S.meaning) (ms : List ℕ) where
   -- the sweep of a condemned segment of words k that are alike to m there
   module _ (s : ℕ) (k : List ℕ) (h : Segments) (inside : s * 256 + 256 ≤ length k) (chain : Chain S k (end_of_segment s) (s * 256))
       (ob : (q : ℕ) → Base S k (end_of_segment s) (s * 256) q → bit ms q ≡ true → rd S k q ≡ object (layout_of (rd S k q)) (slots_of (rd S k q))) where
-    abbrev last : Sweep-row
+    abbrev last : SweepRow
     last = swept_row M k ms (s * 256) (end_of_segment s)
 
     walked_row : Walked S laws ms (end_of_segment s) (s * 256) (s * 256) k last

@@ -141,7 +141,7 @@ abbrev pub closed_space : Meaning → Held → Space
 closed_space m h = space (all_buffers_closed m h.arena.buffers h.words) h.arena.segments
 
 -- With its buffers closed the arena is sound, the registers lead to objects, and both boards are 0.
-pub record Sound-arena (m : Meaning) (h : Held) : Type 0 where
+pub record SoundArena (m : Meaning) (h : Held) : Type 0 where
   pub space : Sound m h.arena.classes (closed_space m h)
   pub registers : (i : ℕ) → i < 16 → Leads m (closed_space m h) (slice_index h.arena.registers i)
   pub marks : h.marks ≡ replicate (length h.words / 32) 0
@@ -151,16 +151,16 @@ pub record Sound-arena (m : Meaning) (h : Held) : Type 0 where
 abbrev pub NewArenasSound : Type 0
 NewArenasSound =
     (m : Meaning) (classes : List Class) (len : ℕ) → fits m len (len / 32) (len / 32) ≡ true
-    → Sound-arena m (held (new_arena classes) (replicate len 0) (replicate (len / 32) 0) (replicate (len / 32) 0))
+    → SoundArena m (held (new_arena classes) (replicate len 0) (replicate (len / 32) 0) (replicate (len / 32) 0))
 
 -- what stood in h stands in k, which is sound again
 abbrev pub KeptBy : Meaning → Plan → Held → Held → Type 0
 KeptBy m y h k =
-    Sound-arena m k × Keeps m y (closed_space m h) (before_sweep m y h).heap (space_of k) h.arena.ambiguous h.arena.registers k.arena.registers
+    SoundArena m k × Keeps m y (closed_space m h) (before_sweep m y h).heap (space_of k) h.arena.ambiguous h.arena.registers k.arena.registers
 
 -- What a collection that is performed keeps, of every lawful format, sound arena and set of pools.
 abbrev pub CollectionsKeep : Type 0
 CollectionsKeep =
-    (m : Meaning) → Lawful m → (h : Held) (pools : ℕ) → Sound-arena m h
+    (m : Meaning) → Lawful m → (h : Held) (pools : ℕ) → SoundArena m h
     → fits m (length h.words) (length h.marks) (length h.greys) ≡ true → can_age h.arena.history ≡ true
     → KeptBy m (plan_of h.arena pools) h (collected m h pools).after

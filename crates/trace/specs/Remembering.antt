@@ -15,7 +15,7 @@ pub record Right (v : Heap) : Type 0 where
 
 -- It is right as a trace begins, and each step keeps it right, over any words. So a round takes the
 -- lowest of all grey objects.
-pub record Stays-right (m : Meaning) (y : Plan) : Type 0 where
+pub record StaysRight (m : Meaning) (y : Plan) : Type 0 where
   pub begins : (g : Segments) (ws ms gs : List ℕ) → Right (heap (untraced g) ws ms gs)
   pub nails : (v : Heap) (w : ℕ) → Right v → Right (nailed m y v w)
   pub fixes : (v : Heap) (a : ℕ) → Right v → Right (fixed m y v a)
@@ -24,4 +24,4 @@ pub record Stays-right (m : Meaning) (y : Plan) : Type 0 where
   pub lowest : (v : Heap) → Right v → lowest_bit v.greys v.state.low ≡ lowest_bit v.greys 0
 
 abbrev pub Remembers : Type 0
-Remembers = (m : Meaning) (y : Plan) → Stays-right m y
+Remembers = (m : Meaning) (y : Plan) → StaysRight m y

@@ -6,7 +6,7 @@ use Rattle.std.proofs.lemmas.List.{map_push, take_at, drop_at, length_push}
 use Rattle.std.proofs.lemmas.Bool.{and_from, and_parts, and_right, cond-true, cond-false, le-leb, lt-ltb, not_from_false}
 use Rattle.std.proofs.lemmas.Bool.Decides.{nat_tests}
 use Rattle.std.specs.Int.Digits.{number_from_digits}
-use Rattle.std.specs.List.{prefix_len, AllByRecursion as All}
+use Rattle.std.specs.List.{prefix_len, AllByRecursion}
 use Rattle.wordtext.specs.Numbers.{digit_of, digits_only, value_of}
 use Rattle.wordtext.specs.Texts.{white, dark, pieces, values, line_of_words, ReadsBack}
 use Rattle.wordtext.proofs.Numerals.{digits_push, numeral_small}
@@ -76,7 +76,7 @@ pieces_digits place (d ∷ ds) rest some only =
     let e : place + 1 + length ds + 1 ≡ place + length (d ∷ ds) + 1 = omega arith in
     cut place d (ds ++ 32 ∷ rest) (digit_dark d h.0) ∙ rw (n, t, r, e)
 
-reads : (place : ℕ) (ws : List ℕ) → All (λ w. w < 2 ^ 32) ws → values (pieces place (line_of_words ws)) ≡ Ok ws
+reads : (place : ℕ) (ws : List ℕ) → AllByRecursion (λ w. w < 2 ^ 32) ws → values (pieces place (line_of_words ws)) ≡ Ok ws
 reads place [] small = refl
 reads place (w ∷ ws) small =
     let s = spelt w (omega (arith, small.0)) in

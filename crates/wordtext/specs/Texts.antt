@@ -1,6 +1,6 @@
 -- The words of a text.
 use Rattle.std.specs.Prelude.{◌≡◌, ℕ, ◌+◌, ◌^◌, ◌<◌, Bool, false, cond, not, ◌&&◌, ◌||◌, List, [], ◌∷◌, ◌++◌, length, take, drop, Ok, Err, vec_items, decimal, Result, Vec, ◌==◌, nat_le}
-use Rattle.std.specs.List.{flat_map, prefix_len, AllByRecursion as All}
+use Rattle.std.specs.List.{flat_map, prefix_len, AllByRecursion}
 use Rattle.std.specs.declared.alloc.Global.{Global}
 use Rattle.wordtext.specs.declared.Failure.{Failure}
 use Rattle.wordtext.specs.declared.Failure.TheVariants.{Bad, NoMemory}
@@ -75,4 +75,4 @@ line_of_words ws = flat_map (λ w. decimal w ++ 32 ∷ []) ws
 
 -- words that are written so are read back as they were
 abbrev pub ReadsBack : Type 0
-ReadsBack = (ws : List ℕ) → All (λ w. w < 2 ^ 32) ws → words_of (line_of_words ws) 0 ≡ Ok ws
+ReadsBack = (ws : List ℕ) → AllByRecursion (λ w. w < 2 ^ 32) ws → words_of (line_of_words ws) 0 ≡ Ok ws
