@@ -6,6 +6,7 @@ use formats::{Counted, Tagged};
 use rows::listing;
 use std::alloc::{AllocError, Global};
 use std::io::Read;
+use std::process::ExitCode;
 use std::{env, io};
 use wordtext::{Failure, Position, Problem, first_line, parse, position};
 
@@ -134,12 +135,15 @@ fn complain(rt: &HostRuntime, trouble: Trouble) -> io::Result<()> {
     }
 }
 
-fn main(rt: HostRuntime) -> io::Result<()> {
+fn main(rt: HostRuntime) -> io::Result<ExitCode> {
     match run(&rt) {
-        Ok(listing) => print!(rt; "{listing}"),
+        Ok(listing) => {
+            print!(rt; "{listing}")?;
+            Ok(ExitCode::SUCCESS)
+        }
         Err(trouble) => {
             complain(&rt, trouble)?;
-            Err(io::Error::from(io::ErrorKind::InvalidInput))
+            Ok(ExitCode::FAILURE)
         }
     }
 }
