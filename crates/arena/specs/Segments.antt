@@ -36,6 +36,15 @@ abbrev pub Inside : ℕ → Option ℕ → Type 0
 Inside len None = Unit {0}
 Inside len (Some s) = (1 ≤ s) × (s < 256) × (s * 256 + 256 ≤ len)
 
+-- the lowest free segment from s on, segment 0 among them
+abbrev pub lowest_free_from : Segments → ℕ → ℕ → Option ℕ
+lowest_free_from g len s = free_among (segments_in len - s) g s
+
+-- the segment is no lower than `from`, and lies in the arena
+abbrev pub InsideFrom : ℕ → ℕ → Option ℕ → Type 0
+InsideFrom from len None = Unit {0}
+InsideFrom from len (Some s) = (from ≤ s) × (s < 256) × (s * 256 + 256 ≤ len)
+
 abbrev pub in_arena : ℕ → ℕ → Bool
 in_arena len s = nat_le (s * 256 + 256) len
 

@@ -1,6 +1,6 @@
 // Segments of 256 words. Segment 0 is never used, so that address 0 can be null.
 ghost use Rattle.std.specs.Prelude.{◌≡◌, length};
-ghost use Rattle.arena.specs.Segments.{all_free, owner_of, owned, lowest_free, Inside, freed, freed_words};
+ghost use Rattle.arena.specs.Segments.{all_free, owner_of, owned, lowest_free, lowest_free_from, Inside, InsideFrom, freed, freed_words};
 
 use crate::boards::clear_all;
 
@@ -46,7 +46,15 @@ impl Segments {
         ensures answer { result ≡ lowest_free self.now words }
         ensures inside { Inside words result }
     {
-        for segment in 1..(words / 256).min(256) {
+        self.lowest_free_from(1, words)
+    }
+
+    // The lowest free one from a given segment on.
+    pub fn lowest_free_from(&self, from: usize, words: usize) -> Option<u8>
+        ensures answer { result ≡ lowest_free_from self.now words from }
+        ensures inside { InsideFrom from words result }
+    {
+        for segment in from..(words / 256).min(256) {
             match self.owner(segment as u8) {
                 Owner::Free => return Some(segment as u8),
                 Owner::Pool(_) => {}

@@ -105,6 +105,34 @@ fn lowest_free_segments(rt: HostRuntime) {
     );
 }
 
+// Each row is where the search begins, how many words the arena has, and the segment that is found.
+#[test]
+fn lowest_free_segments_from_a_place_on(rt: HostRuntime) {
+    let mut segments = Segments::new();
+    segments.give(1, 0);
+    segments.give(3, 7);
+    let rows = [
+        (0, 256, Some(0)),
+        (0, 255, None),
+        (1, 768, Some(2)),
+        (2, 768, Some(2)),
+        (3, 1_024, None),
+        (3, 1_280, Some(4)),
+        (255, 65_536, Some(255)),
+        (255, 65_535, None),
+        (256, 65_536, None),
+        (256, usize::MAX, None),
+        (usize::MAX, usize::MAX, None),
+    ];
+    for (from, words, lowest) in rows.iter() {
+        assert_eq!(rt;
+            segments.lowest_free_from(*from, *words),
+            *lowest,
+            "from {from} of {words} words"
+        );
+    }
+}
+
 // Each row is how many words the arena has, the segment that is freed, and the words that are then 0,
 // if the segment lies in the arena: otherwise nothing changes.
 #[test]

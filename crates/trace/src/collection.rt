@@ -49,12 +49,7 @@ fn perform<F: Format>(
 {
     close_buffers(format, words, &arena.buffers);
     arena.buffers = [Buffer { init: 0, limit: 0 }; 8];
-    let mut trace = Trace {
-        segments: arena.segments,
-        targets: [0; 8],
-        moved: 0,
-        low: 0,
-    };
+    let mut trace = Trace::new(arena.segments);
     trace_roots(
         format,
         plan,

@@ -1,6 +1,6 @@
 // What a trace works on, besides the words and the boards.
 ghost use Rattle.std.specs.Prelude.{◌≡◌};
-ghost use Rattle.trace.specs.Collect.{new_arena};
+ghost use Rattle.trace.specs.Collect.{new_arena, untraced};
 
 use arena::{Buffer, Segments};
 use location::History;
@@ -28,6 +28,20 @@ pub struct Trace {
     pub targets: [u32; 8],
     pub moved: u32,
     pub low: usize,
+}
+
+impl Trace {
+    // Nothing is traced yet.
+    pub fn new(segments: Segments) -> Trace
+        ensures { result ≡ untraced segments }
+    {
+        Trace {
+            segments,
+            targets: [0; 8],
+            moved: 0,
+            low: 0,
+        }
+    }
 }
 
 // What becomes of the object at a reference.

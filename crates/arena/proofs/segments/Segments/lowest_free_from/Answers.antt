@@ -1,7 +1,7 @@
 use Rattle.std.proofs.Common.{sym, ◌∙◌, arith}
 use Rattle.arena.specs.Segments.{segments_in}
 use Rattle.arena.proofs.Searches.{free_here, free_next, free_end}
-use Rattle.arena.proofs.segments.Segments.lowest_free.Goals as goal
+use Rattle.arena.proofs.segments.Segments.lowest_free_from.Goals as goal
 
 pub returns-in-Free : goal.returns-in-Free
 returns-in-Free c = record {
