@@ -1,5 +1,5 @@
 -- Boards: a bit for each word of the arena.
-use Rattle.std.specs.Prelude.{◌≡◌, ℕ, zero, suc, ◌+◌, ◌-◌, ◌*◌, ◌/◌, ◌%◌, ◌^◌, ◌<◌, ◌≤◌, min, Bool, true, false, cond, ◌≢◌, List, length, take, set, Some, None, sum_by, Option, ◌==◌, bit_and, bit_or, count_ones, slice_index, slice_set}
+use Rattle.std.specs.Prelude.{◌≡◌, ℕ, zero, suc, ◌+◌, ◌-◌, ◌*◌, ◌/◌, ◌%◌, ◌^◌, ◌<◌, ◌≤◌, min, Bool, true, false, cond, ◌≢◌, List, length, take, Some, None, sum_by, Option, ◌==◌, bit_and, bit_or, count_ones, slice_index, slice_set}
 
 -- bit n of a word
 abbrev pub bit_of : ℕ → ℕ → Bool

@@ -24,7 +24,7 @@ use Rattle.trace.specs.Collect.{Held, fits, plan_of, untraced, begun, before_swe
 use Rattle.trace.specs.Collect.{Outcome as OutcomeOf}
 use Rattle.trace.specs.Keeping.{Space, space, is_base, is_owned, Leads, place, Follows, SlotFollows, Keeps, closed_space, SoundArena, KeptBy, CollectionsKeep}
 use Rattle.trace.specs.Keeping.{Sound as SoundSpace}
-use Rattle.trace.proofs.Cells.{slots_of, layout_of, owner, target, marked, grey, rd, owner0, leafy, Start, Std, size0, layout0, slots0, Obj, Names, Final, stay, move, Settled, empty, settled, Inv, Grows, Sound}
+use Rattle.trace.proofs.Cells.{slots_of, layout_of, owner, target, grey, rd, owner0, leafy, Start, Std, size0, layout0, slots0, Obj, Names, Final, stay, move, Settled, empty, settled, Inv, Grows, Sound}
 use Rattle.trace.proofs.Facts.{get_or_all, stays_by_mark, stays_by_zone, leaves, settled_grows, grows_trans}
 use Rattle.trace.proofs.Putting.{inv_todo, final_body}
 use Rattle.trace.proofs.Rounding.{Went, one_place, rounds_ok, rounds_end, Regs, regs_ok}

@@ -5,7 +5,7 @@ use Rattle.format.specs.Meaning.{forwarded}
 use Rattle.arena.specs.Boards.{bit, with_bit, reach}
 use Rattle.arena.proofs.BoardLaws.{laws_of}
 use Rattle.trace.specs.Traces.{with_low, Heap, heap}
-use Rattle.trace.proofs.Cells.{slots_of, marked, grey, rd, Start, size0, layout0, Obj, Moved, Final, stay, move, Body, Clean, Room, unused, ahead, Ready, Fill, Owned, Inv, Grows}
+use Rattle.trace.proofs.Cells.{slots_of, grey, rd, Start, size0, layout0, Obj, Moved, Final, stay, move, Body, Clean, Room, unused, ahead, Ready, Fill, Owned, Inv, Grows}
 use Rattle.trace.proofs.Facts.{object_not_forwarded, stays_by_mark, same_stays, board_keeps, board_set, clean_grows, place_grows, copied_on, owned_on}
 
 pub unmoved : (S : Start) (ws : List ℕ) (a c b : ℕ) → Body S ws a (rd S ws a) → Moved S ws c b → c ≢ a
