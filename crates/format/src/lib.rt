@@ -2,12 +2,15 @@
 #![tactic(auto)]
 
 mod checks;
+mod codings;
 mod reading;
 mod refusals;
 mod things;
+mod words;
 mod writing;
 
 pub use checks::{extent, holds};
+pub use codings::WordCoding;
 pub use reading::{look, read};
 pub use refusals::Refusal;
 pub use things::{Format, Head, Kind, Shape, Slot};

@@ -37,13 +37,10 @@ pub enum Kind {
 // An object format. Its functions look at single words and write without asking: `look`, `read`,
 // `make`, `set_slot`, `forward` and `pad` are built on them once for every format, and refuse.
 pub trait Format {
-    const GREATEST_NUMBER: u32;
-
-    const GREATEST_ADDRESS: u32;
-
     ghost meaning: { Self → Meaning };
 
-    // The associated constants, as generic code sees them.
+    // The greatest number and the greatest address, by methods and not by constants, since a format
+    // may be a choice of two and its value then says which.
     fn number_limit(&self) -> u32
         ensures { result ≡ (meaning self.now).greatest_number };
 

@@ -7,7 +7,7 @@ use Rattle.format.specs.declared.things.Slot.{Slot}
 use Rattle.format.specs.declared.things.Slot.TheVariants.{Reference, Number}
 use Rattle.format.specs.declared.things.Kind.TheVariants.{References, Numbers}
 use Rattle.format.specs.Meaning.{Meaning, shape}
-use Rattle.formats.specs.Words.{Coding, coded}
+use Rattle.format.specs.Words.{Coding, coded}
 
 -- bits 2 to 10
 abbrev pub counted_size : ℕ → ℕ

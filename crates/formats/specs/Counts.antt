@@ -8,7 +8,7 @@ use Rattle.format.specs.declared.things.Slot.TheVariants.{Reference, Number}
 use Rattle.format.specs.Meaning.{holds}
 use Rattle.format.specs.Laws.{Lawful}
 use Rattle.formats.specs.Counted.{counted, counted_coding, counted_slot, counted_word}
-use Rattle.formats.specs.Coded.{coded_lawful}
+use Rattle.format.proofs.Coded.{coded_lawful}
 
 slot_back : (s : Shape) (i : ℕ) (x : Slot) → holds counted s i x ≡ true → counted_slot s i (counted_word x) ≡ x
 slot_back s i (Reference a) h = grind (arith, nat_tests)

@@ -7,7 +7,7 @@ use Rattle.format.specs.declared.things.Slot.{Slot}
 use Rattle.format.specs.declared.things.Slot.TheVariants.{Reference, Number}
 use Rattle.format.specs.declared.things.Kind.TheVariants.{Both}
 use Rattle.format.specs.Meaning.{Meaning, shape}
-use Rattle.formats.specs.Words.{Coding, coded}
+use Rattle.format.specs.Words.{Coding, coded}
 
 -- bits 16 to 24
 abbrev pub tagged_size : ℕ → ℕ

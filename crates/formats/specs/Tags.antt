@@ -8,7 +8,7 @@ use Rattle.format.specs.declared.things.Slot.TheVariants.{Reference, Number}
 use Rattle.format.specs.Meaning.{holds}
 use Rattle.format.specs.Laws.{Lawful}
 use Rattle.formats.specs.Tagged.{tagged, tagged_coding, tagged_slot, tagged_word}
-use Rattle.formats.specs.Coded.{coded_lawful}
+use Rattle.format.proofs.Coded.{coded_lawful}
 
 slot_back : (s : Shape) (i : ℕ) (x : Slot) → holds tagged s i x ≡ true → tagged_slot s i (tagged_word x) ≡ x
 slot_back s i (Reference a) h = grind (arith, nat_tests)

@@ -3,7 +3,6 @@
 
 mod counted;
 mod tagged;
-mod words;
 
 pub use counted::Counted;
 pub use tagged::Tagged;

@@ -1,6 +1,6 @@
 // Single words of a thing, and a thing that is a header and zeros.
 ghost use Rattle.std.specs.Prelude.{◌≡◌, slice_index, slice_set};
-ghost use Rattle.formats.specs.Words.{stamped};
+ghost use Rattle.format.specs.Words.{stamped};
 
 // The word at k, and 0 past the end.
 pub fn word_at(words: &[u32], k: usize) -> u32

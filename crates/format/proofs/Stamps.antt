@@ -2,7 +2,7 @@
 use Rattle.std.specs.Prelude.{◌≡◌, ℕ, suc, ◌+◌, ◌<◌, ◌≤◌, List, [], ◌∷◌, length, replicate, slice_index, slice_set, refl}
 use Rattle.std.proofs.Common.{ap, arith, add-one}
 use Rattle.std.proofs.lemmas.List.{length-replicate, get_or-replicate}
-use Rattle.formats.specs.Words.{stamped}
+use Rattle.format.specs.Words.{stamped}
 
 pub stamped_fill : (v : ℕ) (ws : List ℕ) → slice_set (replicate (length ws) 0) 0 v ≡ stamped v ws
 stamped_fill v [] = refl

@@ -8,8 +8,8 @@ use Rattle.format.specs.declared.things.Slot.{Slot}
 use Rattle.format.specs.Meaning.{holds, blank}
 use Rattle.format.specs.Laws.{Lawful}
 use Rattle.format.proofs.Enough.{Enough, lawful_from}
-use Rattle.formats.specs.Words.{Coding, coded}
-use Rattle.formats.specs.Stamps.{stamped_length, stamped_header, stamped_zero}
+use Rattle.format.specs.Words.{Coding, coded}
+use Rattle.format.proofs.Stamps.{stamped_length, stamped_header, stamped_zero}
 
 pub record ReadsBack (c : Coding) : Type 0 where
   pub ranges : (s : Shape) → c.admits s ≡ true → (s.layout ≤ 255) × (s.n ≤ 127)
