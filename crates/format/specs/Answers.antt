@@ -6,7 +6,7 @@ use Rattle.format.specs.declared.things.Shape.{Shape}
 use Rattle.format.specs.declared.things.Head.{Head}
 use Rattle.format.specs.declared.things.Head.TheVariants.{Nothing, Object, Forwarded, Padding}
 use Rattle.format.specs.declared.things.Slot.{Slot}
-use Rattle.format.specs.Meaning.{Meaning, holds, seen}
+use Rattle.format.specs.Meaning.{Meaning, holds, is_place, seen}
 
 abbrev pub Answer : Type 0
 Answer = Result (Unit {0}) Refusal
@@ -51,7 +51,7 @@ abbrev pub set_words : Meaning → ℕ → Slot → List ℕ → List ℕ
 set_words m i x ws = left_by (set_answer m i x ws) (slot_words m i x ws (own_shape m ws)) ws
 
 abbrev pub address_answer : Meaning → ℕ → Result Shape Refusal → Answer
-address_answer m to (Ok s) = done_if (nat_le 256 to && nat_le to m.greatest_address) NotHeld
+address_answer m to (Ok s) = done_if (is_place m to) NotHeld
 address_answer m to (Err r) = Err r
 
 abbrev pub forward_answer : Meaning → ℕ → List ℕ → Answer

@@ -1,6 +1,6 @@
 -- What an object format means, and how words read under it.
-use Rattle.std.specs.Prelude.{ℕ, zero, suc, Bool, true, false, cond, ◌&&◌, List, map, length, drop, nat_le}
-use Rattle.std.specs.List.{range_with_len}
+use Rattle.std.specs.Prelude.{ℕ, Bool, true, false, cond, ◌&&◌, List, map, length, drop, nat_le}
+use Rattle.std.specs.List.{list_all, range_with_len}
 use Rattle.format.specs.declared.things.Shape.{Shape}
 use Rattle.format.specs.declared.things.Head.{Head}
 use Rattle.format.specs.declared.things.Head.TheVariants.{Nothing, Object, Forwarded, Padding}
@@ -69,12 +69,16 @@ extent m (Object s) = m.size s
 extent m (Forwarded k to) = k
 extent m (Padding k) = k
 
+-- objects stand at addresses from 256 to the greatest
+abbrev pub is_place : Meaning → ℕ → Bool
+is_place m a = nat_le 256 a && nat_le a m.greatest_address
+
 -- An object has an admitted shape, whose layout and number of slots are at most 255; what was
--- forwarded has gone to an address from 256 to the greatest.
+-- forwarded has gone to where an object may stand.
 abbrev pub allowed : Meaning → Head → Bool
 allowed m Nothing = false
 allowed m (Object s) = m.admits s && (nat_le s.layout 255 && nat_le s.n 255)
-allowed m (Forwarded k to) = nat_le 256 to && nat_le to m.greatest_address
+allowed m (Forwarded k to) = is_place m to
 allowed m (Padding k) = true
 
 -- Objects take 1 to 128 words, forwarded or not, and paddings 1 to 256.
@@ -96,14 +100,10 @@ seen m ws = cond (within m (length ws) (m.head ws)) (m.head ws) Nothing
 
 -- ---- readings
 
-abbrev pub all_below : (ℕ → Bool) → ℕ → Bool
-all_below p zero = true
-all_below p (suc k) = p k && all_below p k
-
 -- each slot of an object holds what it may
 abbrev pub slots_hold : Meaning → List ℕ → Head → Bool
 slots_hold m ws Nothing = true
-slots_hold m ws (Object s) = all_below (λ i. holds m s i (m.slot s ws i)) s.n
+slots_hold m ws (Object s) = list_all (λ i. holds m s i (m.slot s ws i)) (range_with_len 0 s.n)
 slots_hold m ws (Forwarded k to) = true
 slots_hold m ws (Padding k) = true
 

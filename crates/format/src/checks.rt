@@ -1,21 +1,27 @@
-// What a slot may hold and how many words a thing takes, for every format.
+// What a slot may hold, where an object may stand and how many words a thing takes, for every format.
 ghost use Rattle.std.specs.Prelude.{◌≡◌};
-ghost use Rattle.format.specs.Meaning.{holds, extent};
+ghost use Rattle.format.specs.Meaning.{holds, is_place, extent};
 
-use crate::things::{Format, Head, Kind, Shape, Slot};
+use crate::things::{Format, Head, Shape, Slot};
+
+const SMALLEST_ADDRESS: u32 = 256;
 
 // Whether slot i of an object of this shape may hold the value.
 pub fn holds<F: Format>(format: &F, shape: Shape, i: u8, value: Slot) -> bool
     ensures { result ≡ holds (F.Format.meaning format.now) shape i value }
 {
-    match (format.kind(shape, i), value) {
-        (Kind::References, Slot::Reference(address)) => address <= format.address_limit(),
-        (Kind::References, Slot::Number(_)) => false,
-        (Kind::Numbers, Slot::Reference(_)) => false,
-        (Kind::Numbers, Slot::Number(number)) => number <= format.number_limit(),
-        (Kind::Both, Slot::Reference(address)) => address <= format.address_limit(),
-        (Kind::Both, Slot::Number(number)) => number <= format.number_limit(),
+    let kind = format.kind(shape, i);
+    match value {
+        Slot::Reference(address) => kind.may_refer() && address <= format.address_limit(),
+        Slot::Number(number) => kind.may_count() && number <= format.number_limit(),
     }
+}
+
+// Whether an object may stand at the address.
+pub(crate) fn is_place<F: Format>(format: &F, address: u32) -> bool
+    ensures { result ≡ is_place (F.Format.meaning format.now) address }
+{
+    (SMALLEST_ADDRESS..=format.address_limit()).contains(&address)
 }
 
 // How many words a thing takes.

@@ -1,16 +1,10 @@
 // Reading: what stands at the start of a slice of words, for every format.
 ghost use Rattle.std.specs.Prelude.{◌≡◌};
-ghost use Rattle.format.specs.Meaning.{allowed, longest, seen, slots_hold, read_head};
+ghost use Rattle.format.specs.Meaning.{allowed, seen, slots_hold, read_head};
 ghost use Rattle.format.specs.Laws.{Readings};
 
-use crate::checks::{extent, holds};
+use crate::checks::{extent, holds, is_place};
 use crate::things::{Format, Head, Shape};
-
-const SMALLEST_ADDRESS: u32 = 256;
-
-const LONGEST_OBJECT: usize = 128;
-
-const LONGEST_PADDING: usize = 256;
 
 // Whether there may be such a thing, its size aside.
 fn is_allowed<F: Format>(format: &F, head: Head) -> bool
@@ -19,19 +13,8 @@ fn is_allowed<F: Format>(format: &F, head: Head) -> bool
     match head {
         Head::Nothing => false,
         Head::Object(shape) => format.admits(shape),
-        Head::Forwarded { to, .. } => SMALLEST_ADDRESS <= to && to <= format.address_limit(),
+        Head::Forwarded { to, .. } => is_place(format, to),
         Head::Padding { .. } => true,
-    }
-}
-
-// The most words that such a thing takes.
-fn longest_of(head: Head) -> usize
-    ensures { result ≡ longest head }
-{
-    match head {
-        Head::Nothing => 0,
-        Head::Object(_) | Head::Forwarded { .. } => LONGEST_OBJECT,
-        Head::Padding { .. } => LONGEST_PADDING,
     }
 }
 
@@ -41,7 +24,7 @@ pub fn look<F: Format>(format: &F, words: &[u32]) -> Head
 {
     let head = format.head(words);
     let size = extent(format, head);
-    if is_allowed(format, head) && 1 <= size && size <= longest_of(head) && size <= words.len() {
+    if is_allowed(format, head) && (1..=head.longest()).contains(&size) && size <= words.len() {
         head
     } else {
         Head::Nothing
@@ -52,12 +35,7 @@ pub fn look<F: Format>(format: &F, words: &[u32]) -> Head
 fn object_holds<F: Format>(format: &F, words: &[u32], shape: Shape) -> bool
     ensures { result ≡ slots_hold (F.Format.meaning format.now) words.now (Head.Object shape) }
 {
-    for i in 0..shape.n {
-        if !holds(format, shape, i, format.slot(words, shape, i)) {
-            return false;
-        }
-    }
-    true
+    (0..shape.n).all(|i| holds(format, shape, i, format.slot(words, shape, i)))
 }
 
 fn slots_hold<F: Format>(format: &F, words: &[u32], head: Head) -> bool

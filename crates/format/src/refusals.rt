@@ -5,21 +5,21 @@ ghost use Rattle.format.specs.Refusals.{number_of, TellsApart};
 // Why a call was not performed.
 #[derive(Clone, Copy, PartialEq, Eq, Debug)]
 pub enum Refusal {
-    UnknownCall,
-    NoSuchThing,
-    NotAdmitted,
-    NoSuchSlot,
-    NotHeld,
-    WrongLength,
-    PastTheObject,
-    NullRegister,
-    PointNotIdle,
-    PointIdle,
-    PointLost,
-    NoRoom,
-    OtherKind,
-    PokedWord,
-    CollectionsSpent,
+    UnknownCall = 2,
+    NoSuchThing = 3,
+    NotAdmitted = 4,
+    NoSuchSlot = 5,
+    NotHeld = 6,
+    WrongLength = 7,
+    PastTheObject = 8,
+    NullRegister = 20,
+    PointNotIdle = 21,
+    PointIdle = 22,
+    PointLost = 23,
+    NoRoom = 24,
+    OtherKind = 25,
+    PokedWord = 26,
+    CollectionsSpent = 30,
 }
 
 impl Refusal {
@@ -28,22 +28,6 @@ impl Refusal {
         ensures value { result ≡ number_of self }
         ensures laws { TellsApart }
     {
-        match self {
-            Refusal::UnknownCall => 2,
-            Refusal::NoSuchThing => 3,
-            Refusal::NotAdmitted => 4,
-            Refusal::NoSuchSlot => 5,
-            Refusal::NotHeld => 6,
-            Refusal::WrongLength => 7,
-            Refusal::PastTheObject => 8,
-            Refusal::NullRegister => 20,
-            Refusal::PointNotIdle => 21,
-            Refusal::PointIdle => 22,
-            Refusal::PointLost => 23,
-            Refusal::NoRoom => 24,
-            Refusal::OtherKind => 25,
-            Refusal::PokedWord => 26,
-            Refusal::CollectionsSpent => 30,
-        }
+        self as u8
     }
 }

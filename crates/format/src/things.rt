@@ -1,6 +1,6 @@
 // Objects and their slots, and what a format says and does.
 ghost use Rattle.std.specs.Prelude.{◌≡◌};
-ghost use Rattle.format.specs.Meaning.{Meaning};
+ghost use Rattle.format.specs.Meaning.{Meaning, longest, may_count, may_refer};
 ghost use Rattle.format.specs.Laws.{Lawful};
 
 // The layout of an object and the number of its slots.
@@ -10,13 +10,30 @@ pub struct Shape {
     pub n: u8,
 }
 
-// What the words at a base hold.
+// What the words at a base hold: exactly one of four, and so no Option, since `Nothing` is one of them.
 #[derive(Clone, Copy, PartialEq, Eq, Debug)]
 pub enum Head {
     Nothing,
     Object(Shape),
     Forwarded { size: usize, to: u32 },
     Padding { size: usize },
+}
+
+const LONGEST_OBJECT: usize = 128;
+
+pub(crate) const LONGEST_PADDING: usize = 256;
+
+impl Head {
+    // The most words that such a thing takes.
+    pub(crate) fn longest(self) -> usize
+        ensures { result ≡ longest self }
+    {
+        match self {
+            Head::Nothing => 0,
+            Head::Object(_) | Head::Forwarded { .. } => LONGEST_OBJECT,
+            Head::Padding { .. } => LONGEST_PADDING,
+        }
+    }
 }
 
 // What a slot holds. A reference is an address, or 0 for null.
@@ -32,6 +49,20 @@ pub enum Kind {
     References,
     Numbers,
     Both,
+}
+
+impl Kind {
+    pub(crate) fn may_refer(self) -> bool
+        ensures { result ≡ may_refer self }
+    {
+        matches!(self, Kind::References | Kind::Both)
+    }
+
+    pub(crate) fn may_count(self) -> bool
+        ensures { result ≡ may_count self }
+    {
+        matches!(self, Kind::Numbers | Kind::Both)
+    }
 }
 
 // An object format. Its functions look at single words and write without asking: `look`, `read`,

@@ -6,7 +6,7 @@ ghost use Rattle.format.specs.Words.{stamped};
 pub fn word_at(words: &[u32], k: usize) -> u32
     ensures { result ≡ slice_index words.now k }
 {
-    if k < words.len() { words[k] } else { 0 }
+    words.get(k).copied().unwrap_or(0)
 }
 
 // Writes the word at k; past the end nothing.

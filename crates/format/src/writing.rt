@@ -2,10 +2,10 @@
 ghost use Rattle.std.specs.Prelude.{◌≡◌};
 ghost use Rattle.format.specs.Answers.{make_answer, make_words, own_shape, set_answer, set_words, forward_answer, forward_words, pad_answer, pad_words};
 
-use crate::checks::holds;
+use crate::checks::{holds, is_place};
 use crate::reading::look;
 use crate::refusals::Refusal;
-use crate::things::{Format, Head, Shape, Slot};
+use crate::things::{Format, Head, LONGEST_PADDING, Shape, Slot};
 
 // Makes an object, each slot null or 0.
 pub fn make<F: Format>(format: &F, own: &mut [u32], shape: Shape) -> Result<(), Refusal>
@@ -27,16 +27,8 @@ fn shape_of<F: Format>(format: &F, own: &[u32]) -> Result<Shape, Refusal>
     ensures { result ≡ own_shape (F.Format.meaning format.now) own.now }
 {
     match look(format, own) {
-        Head::Object(shape) => {
-            if own.len() == format.size(shape) {
-                Ok(shape)
-            } else {
-                Err(Refusal::WrongLength)
-            }
-        }
-        Head::Nothing => Err(Refusal::WrongLength),
-        Head::Forwarded { .. } => Err(Refusal::WrongLength),
-        Head::Padding { .. } => Err(Refusal::WrongLength),
+        Head::Object(shape) if own.len() == format.size(shape) => Ok(shape),
+        _ => Err(Refusal::WrongLength),
     }
 }
 
@@ -61,8 +53,8 @@ pub fn forward<F: Format>(format: &F, own: &mut [u32], to: u32) -> Result<(), Re
     ensures answer { result ≡ forward_answer (F.Format.meaning format.now) to own.old }
     ensures after { own.new ≡ forward_words (F.Format.meaning format.now) to own.old }
 {
-    let _shape = shape_of(format, own)?;
-    if to < 256 || to > format.address_limit() {
+    shape_of(format, own)?;
+    if !is_place(format, to) {
         return Err(Refusal::NotHeld);
     }
     format.write_forward(own, to);
@@ -74,7 +66,7 @@ pub fn pad<F: Format>(format: &F, own: &mut [u32]) -> Result<(), Refusal>
     ensures answer { result ≡ pad_answer own.old }
     ensures after { own.new ≡ pad_words (F.Format.meaning format.now) own.old }
 {
-    if own.len() < 1 || own.len() > 256 {
+    if !(1..=LONGEST_PADDING).contains(&own.len()) {
         return Err(Refusal::WrongLength);
     }
     format.write_padding(own);

@@ -34,7 +34,7 @@ impl WordCoding for Counted {
     fn head_of(word: u32) -> Head {
         let size = word / 4 % 512;
         match word % 4 {
-            1 if 1 <= size && size <= 128 && word / 2048 < 128 => {
+            1 if (1..=128).contains(&size) && word / 2048 < 128 => {
                 Head::Object(Shape {
                     layout: (word / 2048) as u8,
                     n: (size - 1) as u8,

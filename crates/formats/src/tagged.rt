@@ -34,7 +34,7 @@ impl WordCoding for Tagged {
             return Head::Nothing;
         }
         match word / 0x4000_0000 {
-            1 if 1 <= size && size <= 128 && low == 0 => Head::Object(Shape {
+            1 if (1..=128).contains(&size) && low == 0 => Head::Object(Shape {
                 layout: 0,
                 n: (size - 1) as u8,
             }),
