@@ -1,10 +1,10 @@
 -- Readings in a memory of which a part is rewritten.
-use Rattle.std.proofs.Common.{◌≡◌, ℕ, ◌+◌, ◌-◌, ◌<◌, ◌≤◌, true, leb, ◌≢◌, ◌⊎◌, List, ◌++◌, length, get_or, take, drop, set, replicate, sym, ap, ◌∙◌, subst, inl, inr, arith}
+use Rattle.std.proofs.Common.{◌≡◌, ℕ, ◌+◌, ◌<◌, ◌≤◌, true, leb, ◌≢◌, ◌⊎◌, List, ◌++◌, length, get_or, take, drop, set, replicate, sym, ap, ◌∙◌, subst, inl, inr, arith, rules}
 use borrow.Rule.Slice.PartMut.{put_mid}
 use Rattle.std.proofs.lemmas.Bool.{and_parts, leb-true}
-use Rattle.std.proofs.lemmas.List.{length-replicate, length-take-le, length-drop, length-append, get_or-take, get_or-drop, get_or_append_left, get_or-append_right, drop_at, take-take, take-append-le, drop-append-le, take-append-drop}
+use Rattle.std.proofs.lemmas.List.{length-replicate, length-take-le, length-drop, drop_at, drop-take, places, take-take, take-append-le}
 use Rattle.std.proofs.lemmas.List.FromFn.{length-map-range_with_len}
-use Rattle.std.proofs.lemmas.Slice.{drop-put_mid}
+use Rattle.std.proofs.lemmas.Slice.{drop-put_mid, take-put_mid_below, overwrites}
 use Rattle.format.specs.declared.things.Shape.{Shape}
 use Rattle.format.specs.declared.things.Head.TheVariants.{Object}
 use Rattle.format.specs.declared.things.Slot.{Slot}
@@ -19,30 +19,18 @@ module _ (a k : ℕ) (xs ys : List ℕ) (fits : a + k ≤ length xs) (long : len
   front = length-take-le a xs (omega arith)
 
   pub length_put : length (put_mid a k xs ys) ≡ length xs
-  length_put =
-      omega (arith, length-append (take a xs) (ys ++ drop k (drop a xs)), length-append ys (drop k (drop a xs)), front, length-drop k (drop a xs), length-drop a xs)
+  length_put = search (rules, overwrites)
 
   pub drop_put : drop a (put_mid a k xs ys) ≡ ys ++ drop k (drop a xs)
   drop_put = drop_at (take a xs) (ys ++ drop k (drop a xs)) a front
 
   pub get_or_put_outside : (j : ℕ) → (j < a) ⊎ (a + k ≤ j) → get_or (put_mid a k xs ys) j 0 ≡ get_or xs j 0
-  get_or_put_outside j (inl b) =
-      get_or_append_left (take a xs) (ys ++ drop k (drop a xs)) 0 j (omega (arith, front)) ∙ get_or-take a xs j 0 b
-  get_or_put_outside j (inr b) =
-      get_or-append_right (take a xs) (ys ++ drop k (drop a xs)) a j 0 front (omega arith)
-      ∙ get_or-append_right ys (drop k (drop a xs)) k (j - a) 0 long (omega arith)
-      ∙ get_or-drop k (drop a xs) (j - a - k) 0 ∙ get_or-drop a xs (k + (j - a - k)) 0
-      ∙ ap (λ z. get_or xs z 0) (omega arith)
+  get_or_put_outside j (inl b) = search (rules, places)
+  get_or_put_outside j (inr b) = search (rules, places)
 
   -- the words before the part stay
   pub part_before : (b n : ℕ) → b + n ≤ a → part b n (put_mid a k xs ys) ≡ part b n xs
-  part_before b n h =
-      let z = ys ++ drop k (drop a xs) in
-      ap (take n) (drop-append-le b (take a xs) z (omega (arith, front)))
-      ∙ take-append-le n (drop b (take a xs)) z (omega (arith, front, length-drop b (take a xs)))
-      ∙ sym (ap (take n) (drop-append-le b (take a xs) (drop a xs) (omega (arith, front)))
-      ∙ take-append-le n (drop b (take a xs)) (drop a xs) (omega (arith, front, length-drop b (take a xs))))
-      ∙ ap (λ w. take n (drop b w)) (take-append-drop a xs)
+  part_before b n h = sym (drop-take b n (put_mid a k xs ys)) ∙ ap (drop b) (take-put_mid_below a k xs ys (b + n) h (omega arith)) ∙ drop-take b n xs
 
 -- ---- things
 
