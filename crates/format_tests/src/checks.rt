@@ -22,6 +22,21 @@ pub fn padding(size: usize) -> Head {
     Head::Padding { size }
 }
 
+// A header, by what it is of: no thing of a size, an object's layout and size, a forwarded thing's
+// size and new address, a padding's size.
+#[derive(Clone, Copy)]
+pub enum Header {
+    NoThing(u32),
+    IsObject(u32, u32),
+    IsForwarded(u32, u32),
+    IsPadding(u32),
+}
+
+// The word of a header, worked out here apart from the format's code.
+pub trait Headers: Format {
+    fn word(header: Header) -> u32;
+}
+
 fn look_at<F: Format>(format: &F, header: u32) -> Head {
     let mut words = [0; 511];
     words[0] = header;
@@ -29,42 +44,43 @@ fn look_at<F: Format>(format: &F, header: u32) -> Head {
 }
 
 // Each row is a header, and what it says with 510 zeros after it.
-pub fn check_headers<F: Format>(rt: &impl Abort, format: &F, rows: &[(u32, Head)]) {
-    for (header, head) in rows {
-        assert_eq!(rt; look_at(format, *header), *head, "header {header:#x}");
+pub fn check_headers<F: Headers>(rt: &impl Abort, format: &F, rows: &[(Header, Head)]) {
+    for &(header, head) in rows {
+        let word = F::word(header);
+        assert_eq!(rt; look_at(format, word), head, "header {word:#x}");
     }
 }
 
 // Each row is a header, what it says, and its unused bits, any of which makes it say nothing.
-pub fn check_unused_bits<F: Format>(rt: &impl Abort, format: &F, rows: &[(u32, Head, u32)]) {
-    for (header, head, unused) in rows {
-        assert_eq!(rt; look_at(format, *header), *head, "header {header:#x}");
-        for bit in 0..32u32 {
-            let mask = 1 << bit;
-            if unused & mask != 0 {
-                let word = header | mask;
-                assert_eq!(rt; look_at(format, word), Head::Nothing, "header {word:#x}");
-            }
+pub fn check_unused_bits<F: Headers>(rt: &impl Abort, format: &F, rows: &[(Header, Head, u32)]) {
+    for &(header, head, unused) in rows {
+        let header = F::word(header);
+        assert_eq!(rt; look_at(format, header), head, "header {header:#x}");
+        for mask in (0..32u32)
+            .map(|bit| 1 << bit)
+            .filter(|mask| unused & *mask != 0)
+        {
+            let word = header | mask;
+            assert_eq!(rt; look_at(format, word), Head::Nothing, "header {word:#x}");
         }
     }
 }
 
 // Each row is the header of a thing of so many words, the others 0. It reads so from as many words
 // and from one more, and as nothing from one less.
-pub fn check_lengths<F: Format>(rt: &impl Abort, format: &F, rows: &[(u32, usize, Head)]) {
-    for (header, size, head) in rows {
-        let size = *size;
+pub fn check_lengths<F: Headers>(rt: &impl Abort, format: &F, rows: &[(Header, usize, Head)]) {
+    for &(header, size, head) in rows {
         assert!(rt; 1 <= size && size <= 256);
         let mut words = [0; 257];
-        words[0] = *header;
-        assert_eq!(rt; extent(format, *head), size);
+        words[0] = F::word(header);
+        assert_eq!(rt; extent(format, head), size);
         assert_eq!(rt;
             read(format, &words[0..size - 1]),
             Head::Nothing,
             "a word short"
         );
-        assert_eq!(rt; read(format, &words[0..size]), *head, "exactly as long");
-        assert_eq!(rt; read(format, &words[0..size + 1]), *head, "a word more");
+        assert_eq!(rt; read(format, &words[0..size]), head, "exactly as long");
+        assert_eq!(rt; read(format, &words[0..size + 1]), head, "a word more");
     }
 }
 
@@ -72,9 +88,9 @@ pub fn check_lengths<F: Format>(rt: &impl Abort, format: &F, rows: &[(u32, usize
 
 // Each row is words, what they read as, and the slots of that.
 pub fn check_readings<F: Format>(rt: &impl Abort, format: &F, rows: &[(&[u32], Head, &[Slot])]) {
-    for (k, (words, head, slots)) in rows.iter().enumerate() {
-        assert_eq!(rt; read(format, words), *head, "row {k}");
-        if let Head::Object(shape) = *head {
+    for (k, &(words, head, slots)) in rows.iter().enumerate() {
+        assert_eq!(rt; read(format, words), head, "row {k}");
+        if let Head::Object(shape) = head {
             assert_eq!(rt; slots.len(), shape.n as usize, "row {k}");
             for (i, slot) in (0..shape.n).zip(slots.iter()) {
                 assert_eq!(rt; format.slot(words, shape, i), *slot, "row {k}");
@@ -103,109 +119,79 @@ fn perform<F: Format>(format: &F, own: &mut [u32], write: Write) -> Result<(), u
         Write::Forward(to) => forward(format, own, to),
         Write::Pad => pad(format, own),
     };
-    match answer {
-        Ok(()) => Ok(()),
-        Err(refusal) => Err(refusal.number()),
-    }
+    answer.map_err(Refusal::number)
 }
 
 // Each row is how many words there are, what is written over them, and the header that they then
 // have, with 0 in every other word; or the number by which it is refused, and then they stay.
-pub fn check_fresh<F: Format>(
+pub fn check_fresh<F: Headers>(
     rt: &impl Abort,
     format: &F,
-    rows: &[(usize, Write, Result<u32, u8>)],
+    rows: &[(usize, Write, Result<Header, u8>)],
 ) {
-    for (k, (len, write, answer)) in rows.iter().enumerate() {
-        let len = *len;
+    for (k, &(len, write, answer)) in rows.iter().enumerate() {
         assert!(rt; len <= 260);
         let mut words = [OLD; 260];
         let mut expected = [OLD; 260];
         let own = &mut words[0..len];
         let after = &mut expected[0..len];
-        let done = match *answer {
-            Ok(header) => {
-                assert!(rt; 0 < len);
-                after.fill(0);
-                after[0] = header;
-                Ok(())
-            }
-            Err(number) => Err(number),
-        };
-        assert_eq!(rt; perform(format, own, *write), done, "row {k}");
+        if let Ok(header) = answer {
+            assert!(rt; 0 < len);
+            after.fill(0);
+            after[0] = F::word(header);
+        }
+        assert_eq!(rt; perform(format, own, write), answer.map(|_| ()), "row {k}");
         assert_eq!(rt; &*own, &*after, "row {k}");
     }
 }
 
-fn check_change<F: Format>(
-    rt: &impl Abort,
-    format: &F,
-    row: usize,
-    before: &[u32],
-    write: Write,
-    answer: Result<&[u32], u8>,
-) {
-    let (after, done) = match answer {
-        Ok(after) => (after, Ok(())),
-        Err(number) => (before, Err(number)),
-    };
-    let len = before.len();
-    assert!(rt; len <= 4);
-    let mut words = [OLD; 4];
-    let own = &mut words[0..len];
-    own.copy_from_slice(before);
-    assert_eq!(rt; perform(format, own, write), done, "row {row}");
-    assert_eq!(rt; &*own, after, "row {row}");
-}
-
 // Each row is what is written over an object's words, and the words after; or the number by which
 // it is refused, and then they stay.
-pub fn check_changes<F: Format>(
+pub fn check_changes<F: Format, const N: usize>(
     rt: &impl Abort,
     format: &F,
-    before: &[u32],
-    rows: &[(Write, Result<&[u32], u8>)],
-) -> Result<(), Fail> {
-    for (k, (write, answer)) in rows.iter().enumerate() {
-        check_change(rt, format, k, before, *write, *answer);
+    before: [u32; N],
+    rows: &[(Write, Result<[u32; N], u8>)],
+) {
+    for (k, &(write, answer)) in rows.iter().enumerate() {
+        let (after, done) = match answer {
+            Ok(after) => (after, Ok(())),
+            Err(number) => (before, Err(number)),
+        };
+        let mut own = before;
+        assert_eq!(rt; perform(format, &mut own, write), done, "row {k}");
+        assert_eq!(rt; &own[..], &after[..], "row {k}");
     }
-    Ok(())
 }
 
 // Words that are not one object's, no word more or less, are neither set nor forwarded, whatever
 // the slot, the value or the address.
-pub fn check_no_object<F: Format>(
-    rt: &impl Abort,
-    format: &F,
-    rows: &[&[u32]],
-) -> Result<(), Fail> {
+pub fn check_no_object<F: Format>(rt: &impl Abort, format: &F, rows: &[&[u32]]) {
     let writes = [
         Write::Set(0, Slot::Reference(0)),
         Write::Set(255, Slot::Reference(65_536)),
         Write::Forward(256),
         Write::Forward(255),
     ];
-    for (k, words) in rows.iter().enumerate() {
-        for write in writes.iter() {
-            check_change(rt, format, k, words, *write, Err(7));
+    for (k, &before) in rows.iter().enumerate() {
+        assert!(rt; before.len() <= 4);
+        for write in writes {
+            let mut words = [OLD; 4];
+            let own = &mut words[0..before.len()];
+            own.copy_from_slice(before);
+            assert_eq!(rt; perform(format, own, write), Err(7), "row {k}");
+            assert_eq!(rt; &*own, before, "row {k}");
         }
     }
-    Ok(())
 }
 
-// The object of 127 slots, by its header, the word of the number 5, and its header once it has
-// been forwarded to 65,535.
-pub fn check_greatest<F: Format>(
-    rt: &impl Abort,
-    format: &F,
-    header: u32,
-    five: u32,
-    gone: u32,
-) -> Result<(), Fail> {
+// The object of 127 slots, with the word of the number 5, and its header once it has been
+// forwarded to 65,535.
+pub fn check_greatest<F: Headers>(rt: &impl Abort, format: &F, five: u32) -> Result<(), Fail> {
     let mut own = [OLD; 128];
     let mut after = [0; 128];
     make(format, &mut own, Shape { layout: 0, n: 127 })?;
-    after[0] = header;
+    after[0] = F::word(Header::IsObject(0, 128));
     assert_eq!(rt; &own[..], &after[..], "made");
     set_slot(format, &mut own, 126, Slot::Number(5))?;
     after[127] = five;
@@ -216,7 +202,7 @@ pub fn check_greatest<F: Format>(
     );
     assert_eq!(rt; &own[..], &after[..], "a slot past the last not set");
     forward(format, &mut own, 65_535)?;
-    after[0] = gone;
+    after[0] = F::word(Header::IsForwarded(128, 65_535));
     assert_eq!(rt; &own[..], &after[..], "forwarded");
     Ok(())
 }

@@ -1,8 +1,10 @@
 // The counted format: the layout counts the references, which come before the numbers.
-use crate::checks::Write::{Forward, Make, Pad, Set};
+use crate::both;
+use crate::checks::Header::{IsForwarded, IsObject, IsPadding, NoThing};
+use crate::checks::Write::{Make, Set};
 use crate::checks::{
-    Write, check_changes, check_fresh, check_greatest, check_headers, check_lengths,
-    check_no_object, check_readings, check_unused_bits, forwarded, object, padding,
+    Header, Headers, check_changes, check_fresh, check_greatest, check_headers, check_lengths,
+    check_readings, check_unused_bits, forwarded, object, padding,
 };
 use format::Head;
 use format::Slot::{Number, Reference};
@@ -11,68 +13,32 @@ use std::test::Fail;
 
 // Bits 0 and 1 say what a thing is. Its size begins at bit 2, an object's layout at bit 11, and the
 // new address of what was forwarded at bit 16.
-const IS_OBJECT: u32 = 1;
-
-const IS_FORWARDED: u32 = 2;
-
-const IS_PADDING: u32 = 3;
-
-const SIZE: u32 = 1 << 2;
-
-const LAYOUT: u32 = 1 << 11;
-
-const TO: u32 = 1 << 16;
+impl Headers for Counted {
+    fn word(header: Header) -> u32 {
+        match header {
+            NoThing(size) => size << 2,
+            IsObject(layout, size) => 1 | size << 2 | layout << 11,
+            IsForwarded(size, to) => 2 | size << 2 | to << 16,
+            IsPadding(size) => 3 | size << 2,
+        }
+    }
+}
 
 #[test]
 fn headers(rt: HostRuntime) {
+    both::headers(&rt, &Counted);
     check_headers(
         &rt,
         &Counted,
         &[
-            // no thing
-            (0, Head::Nothing),
-            (SIZE, Head::Nothing),
-            (128 * SIZE, Head::Nothing),
-            (129 * SIZE, Head::Nothing),
-            (256 * SIZE, Head::Nothing),
-            (257 * SIZE, Head::Nothing),
-            (511 * SIZE, Head::Nothing),
-            // an object takes 1 to 128 words
-            (IS_OBJECT, Head::Nothing),
-            (IS_OBJECT + SIZE, object(0, 0)),
-            (IS_OBJECT + 128 * SIZE, object(0, 127)),
-            (IS_OBJECT + 129 * SIZE, Head::Nothing),
-            (IS_OBJECT + 256 * SIZE, Head::Nothing),
-            (IS_OBJECT + 257 * SIZE, Head::Nothing),
-            (IS_OBJECT + 511 * SIZE, Head::Nothing),
-            // its layout is at most the number of its slots
-            (IS_OBJECT + SIZE + LAYOUT, Head::Nothing),
-            (IS_OBJECT + 3 * SIZE + 2 * LAYOUT, object(2, 2)),
-            (IS_OBJECT + 3 * SIZE + 3 * LAYOUT, Head::Nothing),
-            (IS_OBJECT + 127 * SIZE + 126 * LAYOUT, object(126, 126)),
-            (IS_OBJECT + 127 * SIZE + 127 * LAYOUT, Head::Nothing),
-            (IS_OBJECT + 128 * SIZE + 127 * LAYOUT, object(127, 127)),
-            (IS_OBJECT + 128 * SIZE + 128 * LAYOUT, Head::Nothing),
-            // what was forwarded took 1 to 128 words
-            (IS_FORWARDED + 256 * TO, Head::Nothing),
-            (IS_FORWARDED + SIZE + 256 * TO, forwarded(1, 256)),
-            (IS_FORWARDED + 128 * SIZE + 256 * TO, forwarded(128, 256)),
-            (IS_FORWARDED + 129 * SIZE + 256 * TO, Head::Nothing),
-            (IS_FORWARDED + 256 * SIZE + 256 * TO, Head::Nothing),
-            (IS_FORWARDED + 257 * SIZE + 256 * TO, Head::Nothing),
-            (IS_FORWARDED + 511 * SIZE + 256 * TO, Head::Nothing),
-            // and has gone to 256 to 65,535
-            (IS_FORWARDED + SIZE, Head::Nothing),
-            (IS_FORWARDED + SIZE + 255 * TO, Head::Nothing),
-            (IS_FORWARDED + SIZE + 65_535 * TO, forwarded(1, 65_535)),
-            // a padding takes 1 to 256 words
-            (IS_PADDING, Head::Nothing),
-            (IS_PADDING + SIZE, padding(1)),
-            (IS_PADDING + 128 * SIZE, padding(128)),
-            (IS_PADDING + 129 * SIZE, padding(129)),
-            (IS_PADDING + 256 * SIZE, padding(256)),
-            (IS_PADDING + 257 * SIZE, Head::Nothing),
-            (IS_PADDING + 511 * SIZE, Head::Nothing),
+            // an object's layout is at most the number of its slots
+            (IsObject(1, 1), Head::Nothing),
+            (IsObject(2, 3), object(2, 2)),
+            (IsObject(3, 3), Head::Nothing),
+            (IsObject(126, 127), object(126, 126)),
+            (IsObject(127, 127), Head::Nothing),
+            (IsObject(127, 128), object(127, 127)),
+            (IsObject(128, 128), Head::Nothing),
         ],
     );
 }
@@ -84,200 +50,110 @@ fn unused_bits(rt: HostRuntime) {
         &Counted,
         &[
             // bits 18 to 31
-            (
-                IS_OBJECT + 128 * SIZE + 127 * LAYOUT,
-                object(127, 127),
-                0xfffc_0000,
-            ),
+            (IsObject(127, 128), object(127, 127), 0xfffc_0000),
             // bits 11 to 15
-            (
-                IS_FORWARDED + 128 * SIZE + 256 * TO,
-                forwarded(128, 256),
-                0x0000_f800,
-            ),
+            (IsForwarded(128, 256), forwarded(128, 256), 0x0000_f800),
             // bits 11 to 31
-            (IS_PADDING + 128 * SIZE, padding(128), 0xffff_f800),
+            (IsPadding(128), padding(128), 0xffff_f800),
         ],
     );
 }
 
 #[test]
 fn lengths(rt: HostRuntime) {
-    check_lengths(
-        &rt,
-        &Counted,
-        &[
-            (IS_OBJECT + SIZE, 1, object(0, 0)),
-            (IS_OBJECT + 2 * SIZE + LAYOUT, 2, object(1, 1)),
-            (IS_OBJECT + 128 * SIZE, 128, object(0, 127)),
-            (IS_FORWARDED + SIZE + 256 * TO, 1, forwarded(1, 256)),
-            (
-                IS_FORWARDED + 128 * SIZE + 256 * TO,
-                128,
-                forwarded(128, 256),
-            ),
-            (IS_PADDING + SIZE, 1, padding(1)),
-            (IS_PADDING + 256 * SIZE, 256, padding(256)),
-        ],
-    );
+    both::lengths(&rt, &Counted);
+    check_lengths(&rt, &Counted, &[(IsObject(1, 2), 2, object(1, 1))]);
 }
-
-// An object of a reference, one of a number, and one of two references and a number.
-const REFERS: u32 = IS_OBJECT + 2 * SIZE + LAYOUT;
-
-const COUNTS: u32 = IS_OBJECT + 2 * SIZE;
-
-const THREE: u32 = IS_OBJECT + 4 * SIZE + 2 * LAYOUT;
-
-// A thing of 3 words that has gone to 256, and a padding of 3 words.
-const GONE: u32 = IS_FORWARDED + 3 * SIZE + 256 * TO;
-
-const BLANK: u32 = IS_PADDING + 3 * SIZE;
 
 #[test]
 fn readings(rt: HostRuntime) {
+    // an object of a reference, one of a number, and one of two references and a number
+    let refers = Counted::word(IsObject(1, 2));
+    let counts = Counted::word(IsObject(0, 2));
+    let three = Counted::word(IsObject(2, 4));
+    let gone = Counted::word(IsForwarded(3, 256));
+    let blank = Counted::word(IsPadding(3));
     check_readings(
         &rt,
         &Counted,
         &[
             // a reference is at most 65,535
-            (&[REFERS, 65_535], object(1, 1), &[Reference(65_535)]),
-            (&[REFERS, 65_536], Head::Nothing, &[]),
-            (&[REFERS, 4_294_967_295], Head::Nothing, &[]),
+            (&[refers, 65_535], object(1, 1), &[Reference(65_535)]),
+            (&[refers, 65_536], Head::Nothing, &[]),
+            (&[refers, 4_294_967_295], Head::Nothing, &[]),
             // a number is any word
             (
-                &[COUNTS, 2_147_483_647],
+                &[counts, 2_147_483_647],
                 object(0, 1),
                 &[Number(2_147_483_647)],
             ),
             (
-                &[COUNTS, 4_294_967_295],
+                &[counts, 4_294_967_295],
                 object(0, 1),
                 &[Number(4_294_967_295)],
             ),
             // references come first, and each is looked at
             (
-                &[THREE, 0, 65_535, 65_536],
+                &[three, 0, 65_535, 65_536],
                 object(2, 3),
                 &[Reference(0), Reference(65_535), Number(65_536)],
             ),
-            (&[THREE, 0, 65_536, 0], Head::Nothing, &[]),
+            (&[three, 0, 65_536, 0], Head::Nothing, &[]),
             // no other word is
-            (&[REFERS, 0, 65_536], object(1, 1), &[Reference(0)]),
-            (&[GONE, 65_536, 65_536], forwarded(3, 256), &[]),
-            (&[BLANK, 65_536, 65_536], padding(3), &[]),
+            (&[refers, 0, 65_536], object(1, 1), &[Reference(0)]),
+            (&[gone, 65_536, 65_536], forwarded(3, 256), &[]),
+            (&[blank, 65_536, 65_536], padding(3), &[]),
         ],
     );
 }
 
 #[test]
 fn makes_and_pads(rt: HostRuntime) {
+    both::makes_and_pads(&rt, &Counted);
     check_fresh(
         &rt,
         &Counted,
         &[
-            (1, Make(0, 0), Ok(IS_OBJECT + SIZE)),
-            (4, Make(0, 3), Ok(IS_OBJECT + 4 * SIZE)),
-            (4, Make(2, 3), Ok(IS_OBJECT + 4 * SIZE + 2 * LAYOUT)),
-            (4, Make(3, 3), Ok(IS_OBJECT + 4 * SIZE + 3 * LAYOUT)),
-            (
-                128,
-                Make(127, 127),
-                Ok(IS_OBJECT + 128 * SIZE + 127 * LAYOUT),
-            ),
-            // a layout past the slots, and slots past 127, before the length
+            (4, Make(2, 3), Ok(IsObject(2, 4))),
+            (4, Make(3, 3), Ok(IsObject(3, 4))),
+            (128, Make(127, 127), Ok(IsObject(127, 128))),
+            // a layout past the slots, before the length
             (4, Make(4, 3), Err(4)),
-            (129, Make(0, 128), Err(4)),
-            (256, Make(0, 255), Err(4)),
             (3, Make(4, 3), Err(4)),
-            (128, Make(0, 128), Err(4)),
             // a word too few or too many
-            (0, Make(0, 0), Err(7)),
-            (2, Make(0, 0), Err(7)),
             (3, Make(2, 3), Err(7)),
             (5, Make(2, 3), Err(7)),
-            (127, Make(0, 127), Err(7)),
-            (129, Make(0, 127), Err(7)),
-            // a padding takes 1 to 256 words
-            (0, Pad, Err(7)),
-            (1, Pad, Ok(IS_PADDING + SIZE)),
-            (129, Pad, Ok(IS_PADDING + 129 * SIZE)),
-            (256, Pad, Ok(IS_PADDING + 256 * SIZE)),
-            (257, Pad, Err(7)),
         ],
     );
 }
 
 // An object of a reference and a number.
-const PAIR: u32 = IS_OBJECT + 3 * SIZE + LAYOUT;
+const PAIR: Header = IsObject(1, 3);
 
 #[test]
-fn sets_and_forwards(rt: HostRuntime) -> Result<(), Fail> {
+fn sets_and_forwards(rt: HostRuntime) {
+    both::sets_and_forwards(&rt, &Counted, PAIR);
+    let pair = Counted::word(PAIR);
     check_changes(
         &rt,
         &Counted,
-        &[PAIR, 7, 8],
+        [pair, 7, 8],
         &[
-            (Set(0, Reference(0)), Ok(&[PAIR, 0, 8])),
-            (Set(0, Reference(65_535)), Ok(&[PAIR, 65_535, 8])),
-            (Set(1, Number(4_294_967_295)), Ok(&[PAIR, 7, 4_294_967_295])),
+            (Set(0, Reference(65_535)), Ok([pair, 65_535, 8])),
+            (Set(1, Number(4_294_967_295)), Ok([pair, 7, 4_294_967_295])),
             // values that the slot may not hold
-            (Set(0, Reference(65_536)), Err(6)),
             (Set(0, Number(0)), Err(6)),
             (Set(1, Reference(0)), Err(6)),
-            // no such slot, before the value
-            (Set(2, Number(0)), Err(5)),
-            (Set(2, Reference(65_536)), Err(5)),
-            (Set(255, Number(0)), Err(5)),
-            // an address from 256 to 65,535
-            (Forward(256), Ok(&[GONE, 7, 8])),
-            (
-                Forward(65_535),
-                Ok(&[IS_FORWARDED + 3 * SIZE + 65_535 * TO, 7, 8]),
-            ),
-            (Forward(0), Err(6)),
-            (Forward(255), Err(6)),
-            (Forward(65_536), Err(6)),
-            (Forward(4_294_967_295), Err(6)),
         ],
-    )?;
-    check_changes(
-        &rt,
-        &Counted,
-        &[IS_OBJECT + SIZE],
-        &[
-            (Set(0, Number(0)), Err(5)),
-            (Forward(256), Ok(&[IS_FORWARDED + SIZE + 256 * TO])),
-        ],
-    )
+    );
 }
 
 #[test]
-fn no_object(rt: HostRuntime) -> Result<(), Fail> {
-    check_no_object(
-        &rt,
-        &Counted,
-        &[
-            // no word, a word too few, and a word too many
-            &[],
-            &[PAIR, 7],
-            &[PAIR, 7, 8, 9],
-            // nothing, by its tag and by an unused bit
-            &[0, 7, 8],
-            &[PAIR + 0x8000_0000, 7, 8],
-            &[GONE, 7, 8],
-            &[BLANK, 7, 8],
-        ],
-    )
+fn no_object(rt: HostRuntime) {
+    both::no_object(&rt, &Counted, PAIR, 0x8000_0000);
 }
 
 #[test]
 fn greatest_object(rt: HostRuntime) -> Result<(), Fail> {
-    check_greatest(
-        &rt,
-        &Counted,
-        IS_OBJECT + 128 * SIZE,
-        5,
-        IS_FORWARDED + 128 * SIZE + 65_535 * TO,
-    )
+    check_greatest(&rt, &Counted, 5)
 }
