@@ -31,7 +31,6 @@ pub fn extent<F: Format>(format: &F, head: Head) -> usize
     match head {
         Head::Nothing => 0,
         Head::Object(shape) => format.size(shape),
-        Head::Forwarded { size, .. } => size,
-        Head::Padding { size } => size,
+        Head::Forwarded { size, .. } | Head::Padding { size } => size,
     }
 }

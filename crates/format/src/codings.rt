@@ -6,7 +6,7 @@ ghost use Rattle.format.specs.Laws.{Lawful};
 use crate::things::{Format, Head, Kind, Shape, Slot};
 use crate::words::{put_word, stamp, word_at};
 
-// How such a format codes single words.
+// How such a format codes single words. A header is word 0, and slot i is word i + 1.
 pub trait WordCoding {
     const GREATEST_NUMBER: u32;
 
@@ -48,6 +48,7 @@ pub trait WordCoding {
 
     ghost greatest: { GREATEST_NUMBER ≡ coding.greatest_number };
 
+    // So it is where the coding reads back what it writes (`coded_lawful` in proofs/Coded.antt).
     ghost lawful: { Lawful (coded coding) };
 }
 
