@@ -8,7 +8,7 @@ use std::alloc::{AllocError, Global};
 use std::io::Read;
 use std::process::ExitCode;
 use std::{env, io};
-use wordtext::{Failure, Position, Problem, first_line, parse, position};
+use wordtext::{Failure, Position, Problem, first_line, parse};
 
 #[derive(Clone, Copy)]
 enum Name {
@@ -84,7 +84,7 @@ fn words_in(heap: Global, text: &[u8], start: usize) -> Result<Vec<u32>, Trouble
         Ok(words) => Ok(words),
         Err(Failure::Bad(fault)) => Err(Trouble::BadWord(
             fault.problem,
-            position(text, fault.from),
+            Position::of(text, fault.from),
         )),
         Err(Failure::NoMemory) => Err(Trouble::NoMemory),
     }
