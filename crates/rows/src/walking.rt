@@ -48,6 +48,7 @@ impl Row {
         ensures listed { IfOk result (Listed (F.Format.meaning format.now) words.now) }
         ensures laws { RowLaw (F.Format.meaning format.now) words.now }
     {
+        // A loop and no iterator, since the place where it ends is half of the answer.
         let mut entries = Vec::new(heap);
         let mut end = 0;
         while let Some(next) = Entry::at(format, words, end) {
@@ -69,7 +70,7 @@ pub struct Tally {
 impl Tally {
     ghost use Rattle.rows.specs.Rows.{tally_of};
 
-    // Counts the things of each kind.
+    // Counts the things of each kind, all in one pass.
     pub fn of(entries: &[Entry]) -> Tally
         ensures { result ≡ tally_of entries.now }
     {

@@ -45,6 +45,7 @@ pub enum Failure {
     NoMemory,
 }
 
+// By hand, since the contract of `parse` names the failure that its `?` makes.
 impl<T: Drop> From<AllocFailed<T>> for Failure {
     ghost from_gives = { λ _ r. r ≡ NoMemory };
 
@@ -63,6 +64,7 @@ fn digit(byte: u8, base: u32) -> Option<u32>
 }
 
 // The number that digits of the base write. Once it is too large, the other bytes must still be digits.
+// `from_str_radix` takes a sign too, and stops at the digit that makes it too large.
 #[tactic(auto, using(crate::proofs::Numerals::numeral_bad, std::proofs::lemmas::Grind::common_steps))]
 fn numeral(digits: &[u8], base: u32) -> Result<u32, Problem>
     requires low { 2 ≤ base }
@@ -90,7 +92,7 @@ pub fn number(piece: &[u8]) -> Result<u32, Problem>
     }
 }
 
-// Tab, line feed, vertical tab, form feed, carriage return and space.
+// Tab, line feed, vertical tab, form feed, carriage return and space. `is_ascii_whitespace` has no vertical tab.
 fn is_white(byte: u8) -> bool
     ensures { result ≡ white byte }
 {
@@ -203,7 +205,8 @@ impl fmt::Display for Position {
 
 // Where the first line ends: at the first newline, or at the end of the text.
 pub fn first_line(text: &[u8]) -> usize
-    ensures { result ≡ first_line_of text.now }
+    ensures value { result ≡ first_line_of text.now }
+    ensures within { result ≤ length text.now }
 {
     text.iter().take_while(|b| **b != b'\n').count()
 }
