@@ -1,40 +1,29 @@
--- Lines added to a text.
-use Rattle.std.proofs.Common.{◌≡◌, ℕ, ◌+◌, ◌<◌, List, [], ◌++◌, length, get_or, take, drop, sym, ap, ◌∙◌, add-one}
+-- Lines of a listing, joined.
+use Rattle.std.proofs.Common.{◌≡◌, ℕ, ◌+◌, List, ◌++◌, length, drop, vec_items, sym, ap, ◌∙◌, add-one}
 use Rattle.std.specs.List.{flat_map}
-use Rattle.std.proofs.lemmas.List.{append_assoc, flat_map_more, take_more}
 use Rattle.format.specs.declared.things.Shape.{Shape}
 use Rattle.format.specs.declared.things.Slot.{Slot}
+use Rattle.format.specs.declared.things.Head.TheVariants.{Object}
 use Rattle.format.specs.Meaning.{Meaning}
 use Rattle.rows.specs.declared.walking.Entry.{Entry}
+use Rattle.rows.specs.declared.walking.Row.{Row}
 use Rattle.rows.specs.declared.walking.Tally.{Tally}
-use Rattle.rows.specs.Rows.{row, row_end, tally_of}
-use Rattle.rows.specs.Text.{slot_line, slot_lines, head_line, slots_text, entry_text, end_line, tally_line, listing_text}
+use Rattle.rows.specs.Rows.{Listed, tally_of}
+use Rattle.rows.specs.Text.{slot_line, slot_lines, object_line, end_line, head_line, slots_text, entry_text, tally_line, row_text, listing_text}
 
-pub slots_more : (m : Meaning) (ws : List ℕ) (s : Shape) (i : ℕ) (x : Slot) (before now line after : List ℕ) → before ≡ now ++ slot_lines m ws s i
-    → x ≡ m.slot s ws i → line ≡ slot_line i x → after ≡ before ++ line → after ≡ now ++ slot_lines m ws s (i + 1)
-slots_more m ws s i x before now line after b e l a =
-    a ∙ ap (λ z. z ++ line) b ∙ append_assoc now (slot_lines m ws s i) line
-    ∙ ap (λ z. now ++ (slot_lines m ws s i ++ z)) (l ∙ ap (slot_line i) e) ∙ ap (λ z. now ++ slot_lines m ws s z) (sym (add-one i))
+-- one more slot
+pub slots_more : (m : Meaning) (own : List ℕ) (s : Shape) (i : ℕ) (x : Slot) → x ≡ m.slot s own i → slot_lines m own s i ++ slot_line i x ≡ slot_lines m own s (i + 1)
+slots_more m own s i x e = ap (λ z. slot_lines m own s i ++ slot_line i z) e ∙ ap (slot_lines m own s) (sym (add-one i))
 
-pub entries_more : (m : Meaning) (ws : List ℕ) (es : List Entry) (i : ℕ) (d : Entry) (before now after : List ℕ) → i < length es
-    → before ≡ now ++ flat_map (entry_text m ws) (take i es) → after ≡ before ++ entry_text m ws (get_or es i d)
-    → after ≡ now ++ flat_map (entry_text m ws) (take (i + 1) es)
-entries_more m ws es i d before now after l b a =
-    a ∙ ap (λ z. z ++ entry_text m ws (get_or es i d)) b ∙ flat_map_more (entry_text m ws) now (take i es) (get_or es i d)
-    ∙ ap (λ z. now ++ flat_map (entry_text m ws) z) (sym (take_more es i d l))
+-- an object's line, and then its slots
+pub object_text : (m : Meaning) (ws own : List ℕ) (e : Entry) (s : Shape) (size : ℕ) → e.head ≡ Object s → own ≡ drop e.place ws → size ≡ m.size s
+    → object_line e.place size s.layout s.n ++ slot_lines m own s s.n ≡ entry_text m ws e
+object_text m ws own e s size h o z = rw (o, z) (sym (ap (λ x. head_line m e.place x ++ slots_text m (drop e.place ws) x) h))
 
-pub entry_added : (m : Meaning) (ws own : List ℕ) (e : Entry) (before line between after : List ℕ) → line ≡ head_line m e.place e.head
-    → between ≡ before ++ line → own ≡ drop e.place ws → after ≡ between ++ slots_text m own e.head → after ≡ before ++ entry_text m ws e
-entry_added m ws own e before line between after l b o a =
-    a ∙ ap (λ z. z ++ slots_text m own e.head) b ∙ append_assoc before line (slots_text m own e.head)
-    ∙ ap (λ z. before ++ (z ++ slots_text m own e.head)) l
-    ∙ ap (λ z. before ++ (head_line m e.place e.head ++ slots_text m z e.head)) o
+-- a row's text, of what was counted and where it ended
+pub row_is : (m : Meaning) (ws : List ℕ) (es fs : List Entry) (end : ℕ) (t : Tally) → fs ≡ es → t ≡ tally_of es
+    → flat_map (entry_text m ws) fs ++ (end_line end (length ws) ++ tally_line t) ≡ row_text m ws es end
+row_is m ws es fs end t e h = rw (e, h)
 
-pub listing_is : (m : Meaning) (ws : List ℕ) (es : List Entry) (end : ℕ) (t : Tally) (out things ended all last sum : List ℕ)
-    → es ≡ row m ws → end ≡ row_end m ws → t ≡ tally_of es → out ≡ [] → things ≡ out ++ flat_map (entry_text m ws) es
-    → last ≡ end_line end (length ws) → ended ≡ things ++ last → sum ≡ tally_line t → all ≡ ended ++ sum → all ≡ listing_text m ws
-listing_is m ws es end t out things ended all last sum r n k o h l d s a =
-    a ∙ ap (λ z. z ++ sum) d ∙ append_assoc things last sum
-    ∙ ap (λ z. z ++ (last ++ sum)) (h ∙ ap (λ z. z ++ flat_map (entry_text m ws) es) o ∙ ap (flat_map (entry_text m ws)) r)
-    ∙ ap (λ z. flat_map (entry_text m ws) (row m ws) ++ (z ++ sum)) (l ∙ ap (λ z. end_line z (length ws)) n)
-    ∙ ap (λ z. flat_map (entry_text m ws) (row m ws) ++ (end_line (row_end m ws) (length ws) ++ z)) (s ∙ ap tally_line (k ∙ ap tally_of r))
+pub listing_is : (m : Meaning) (ws : List ℕ) (r : Row) → Listed m ws r → row_text m ws (vec_items r.entries) r.end ≡ listing_text m ws
+listing_is m ws r l = rw (l.things, l.behind)

@@ -51,9 +51,15 @@ entry_text m ws e = head_line m e.place e.head ++ slots_text m (drop e.place ws)
 abbrev pub end_line : ℕ → ℕ → List ℕ
 end_line end len = cond (end == len) (whole_line end) (nothing_line end)
 
+abbrev pub tally_text : Tally → List ℕ
+tally_text t = codes "objects " ++ (decimal t.objects ++ (codes " forwarded " ++ (decimal t.forwarded ++ (codes " paddings " ++ decimal t.paddings))))
+
 abbrev pub tally_line : Tally → List ℕ
-tally_line t =
-    codes "objects " ++ (decimal t.objects ++ (codes " forwarded " ++ (decimal t.forwarded ++ (codes " paddings " ++ (decimal t.paddings ++ codes "\n")))))
+tally_line t = tally_text t ++ codes "\n"
+
+-- the things of a row that ends at a place, where it ends, and the counts
+abbrev pub row_text : Meaning → List ℕ → List Entry → ℕ → List ℕ
+row_text m ws es end = flat_map (entry_text m ws) es ++ (end_line end (length ws) ++ tally_line (tally_of es))
 
 abbrev pub listing_text : Meaning → List ℕ → List ℕ
-listing_text m ws = flat_map (entry_text m ws) (row m ws) ++ (end_line (row_end m ws) (length ws) ++ tally_line (tally_of (row m ws)))
+listing_text m ws = row_text m ws (row m ws) (row_end m ws)

@@ -5,4 +5,4 @@ mod text;
 mod walking;
 
 pub use text::listing;
-pub use walking::{Entry, Row, Tally, count_kinds, entry_at, list};
+pub use walking::{Entry, Row, Tally};

@@ -7,132 +7,94 @@ use rows::listing;
 use std::alloc::{AllocError, Global};
 use std::io::Read;
 use std::process::ExitCode;
-use std::{env, io};
-use wordtext::{Failure, Position, Problem, first_line, parse, position};
+use std::str::FromStr;
+use std::{env, io, str};
+use thiserror::Error;
+use wordtext::{Failure, Position, Problem, first_line, parse};
 
+// What keeps the row from being listed.
+#[derive(Debug, Drop, Error)]
+enum Trouble {
+    #[error("more than one argument; usage: sheetdump [counted|tagged] < words")]
+    TooManyArguments,
+    #[error("no such format: the first argument, or without one line 1 of the input, is counted or tagged")]
+    UnknownFormat,
+    #[error("{1}: {0}")]
+    BadWord(Problem, Position),
+    #[error("out of memory")]
+    NoMemory(#[from(alloc)] AllocError),
+    #[error(transparent)]
+    Unread(#[from] io::Error),
+}
+
+impl Trouble {
+    // Why the text gives no words, and where the first bad one stands.
+    fn of_words(failure: Failure, text: &[u8]) -> Trouble {
+        match failure {
+            Failure::Bad(fault) => Trouble::BadWord(fault.problem, Position::of(text, fault.from)),
+            Failure::NoMemory => Trouble::NoMemory(AllocError),
+        }
+    }
+}
+
+// A format, by its name.
 #[derive(Clone, Copy)]
 enum Name {
     Counted,
     Tagged,
 }
 
-// What keeps the row from being listed.
-#[derive(Drop)]
-enum Trouble {
-    TooManyArguments,
-    UnknownFormat,
-    BadWord(Problem, Position),
-    NoMemory,
-    Unread(io::Error),
-}
+impl FromStr for Name {
+    type Err = Trouble;
 
-impl From<AllocError> for Trouble {
-    fn from(_error: AllocError) -> Trouble {
-        Trouble::NoMemory
+    fn from_str(name: &str) -> Result<Name, Trouble> {
+        match name.trim() {
+            "counted" => Ok(Name::Counted),
+            "tagged" => Ok(Name::Tagged),
+            _ => Err(Trouble::UnknownFormat),
+        }
     }
 }
 
-impl From<io::Error> for Trouble {
-    fn from(error: io::Error) -> Trouble {
-        Trouble::Unread(error)
+impl Name {
+    // The format that the first line of the text names, and where the words begin.
+    fn on_first_line(text: &[u8]) -> Result<(Name, usize), Trouble> {
+        let end = first_line(text);
+        let line = str::from_utf8(&text[..end]).map_err(|_| Trouble::UnknownFormat)?;
+        Ok((line.parse()?, end))
     }
-}
 
-fn format_named(name: &str) -> Result<Name, Trouble> {
-    match name.trim() {
-        "counted" => Ok(Name::Counted),
-        "tagged" => Ok(Name::Tagged),
-        _ => Err(Trouble::UnknownFormat),
+    // The format that the command line names, if it does.
+    fn from_arguments(rt: &HostRuntime) -> Result<Option<Name>, Trouble> {
+        let mut arguments = env::args(rt)?.skip(1);
+        match (arguments.next(), arguments.next()) {
+            (None, _) => Ok(None),
+            (Some(name), None) => Ok(Some(name.as_str().parse()?)),
+            (Some(_), Some(_)) => Err(Trouble::TooManyArguments),
+        }
     }
-}
 
-// The format that the first line names, and where the words begin.
-fn format_on_first_line(text: &[u8]) -> Result<(Name, usize), Trouble> {
-    let end = first_line(text);
-    match text.get(0..end) {
-        Some(line) => match std::str::from_utf8(line) {
-            Ok(name) => Ok((format_named(name)?, end)),
-            Err(_) => Err(Trouble::UnknownFormat),
-        },
-        None => Err(Trouble::UnknownFormat),
-    }
-}
-
-// The format that the command line names, if it does.
-fn format_argument(rt: &HostRuntime) -> Result<Option<Name>, Trouble> {
-    let mut arguments = env::args(rt)?;
-    let _program = arguments.next();
-    let Some(name) = arguments.next() else {
-        return Ok(None);
-    };
-    if arguments.next().is_some() {
-        return Err(Trouble::TooManyArguments);
-    }
-    Ok(Some(format_named(name.as_str())?))
-}
-
-fn listed(heap: Global, name: Name, words: &[u32]) -> Result<String, AllocError> {
-    match name {
-        Name::Counted => listing(heap, &Counted, words),
-        Name::Tagged => listing(heap, &Tagged, words),
-    }
-}
-
-// The words of the text from a place on, or where the first bad one stands.
-fn words_in(heap: Global, text: &[u8], start: usize) -> Result<Vec<u32>, Trouble> {
-    match parse(heap, text, start) {
-        Ok(words) => Ok(words),
-        Err(Failure::Bad(fault)) => Err(Trouble::BadWord(
-            fault.problem,
-            position(text, fault.from),
-        )),
-        Err(Failure::NoMemory) => Err(Trouble::NoMemory),
+    // A `match`, since `Format` has constants, so that there is no `dyn Format`.
+    fn listing(self, heap: Global, words: &[u32]) -> Result<String, AllocError> {
+        match self {
+            Name::Counted => listing(heap, &Counted, words),
+            Name::Tagged => listing(heap, &Tagged, words),
+        }
     }
 }
 
 // The whole listing, or what is wrong: nothing is listed half.
 fn run(rt: &HostRuntime) -> Result<String, Trouble> {
     let heap = rt.alloc();
-    let argument = format_argument(rt)?;
+    let argument = Name::from_arguments(rt)?;
     let mut text = Vec::new(heap);
     rt.stdin().read_to_end(&mut text)?;
     let (format, start) = match argument {
         Some(format) => (format, 0),
-        None => format_on_first_line(&text)?,
+        None => Name::on_first_line(&text)?,
     };
-    let words = words_in(heap, &text, start)?;
-    Ok(listed(heap, format, &words)?)
-}
-
-fn complain_of_word(rt: &HostRuntime, problem: Problem, place: Position) -> io::Result<()> {
-    let line = place.line;
-    let column = place.column;
-    match problem {
-        Problem::NotANumber => {
-            eprintln!(rt;
-                "sheetdump: line {line}, column {column}: not a number; write it in decimal, or in hexadecimal after 0x"
-            )
-        }
-        Problem::TooLarge => eprintln!(rt;
-            "sheetdump: line {line}, column {column}: the number does not fit 32 bits"
-        ),
-    }
-}
-
-fn complain(rt: &HostRuntime, trouble: Trouble) -> io::Result<()> {
-    match trouble {
-        Trouble::TooManyArguments => eprintln!(rt;
-            "sheetdump: more than one argument; usage: sheetdump [counted|tagged] < words"
-        ),
-        Trouble::UnknownFormat => {
-            eprintln!(rt;
-                "sheetdump: no such format: the first argument, or without one line 1 of the input, is counted or tagged"
-            )
-        }
-        Trouble::BadWord(problem, place) => complain_of_word(rt, problem, place),
-        Trouble::NoMemory => eprintln!(rt; "sheetdump: out of memory"),
-        Trouble::Unread(error) => eprintln!(rt; "sheetdump: {error}"),
-    }
+    let words = parse(heap, &text, start).map_err(|failure| Trouble::of_words(failure, &text))?;
+    Ok(format.listing(heap, &words)?)
 }
 
 fn main(rt: HostRuntime) -> io::Result<ExitCode> {
@@ -142,7 +104,7 @@ fn main(rt: HostRuntime) -> io::Result<ExitCode> {
             Ok(ExitCode::SUCCESS)
         }
         Err(trouble) => {
-            complain(&rt, trouble)?;
+            eprintln!(rt; "sheetdump: {trouble}")?;
             Ok(ExitCode::FAILURE)
         }
     }

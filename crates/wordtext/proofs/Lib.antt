@@ -1,4 +1,3 @@
-pub mod Counts
+pub mod Cuts
 pub mod Numerals
-pub mod Pieces
 pub mod Printed

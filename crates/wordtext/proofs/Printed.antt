@@ -10,7 +10,7 @@ use Rattle.std.specs.List.{prefix_len, AllByRecursion}
 use Rattle.wordtext.specs.Numbers.{digit_of, digits_only, value_of}
 use Rattle.wordtext.specs.Texts.{white, dark, pieces, values, line_of_words, ReadsBack}
 use Rattle.wordtext.proofs.Numerals.{digits_push, numeral_small}
-use Rattle.wordtext.proofs.Pieces.{piece, cut}
+use Rattle.wordtext.proofs.Cuts.{piece, cut}
 
 -- a digit, by what it is worth
 digit_at : (n : ℕ) → n < 10 → digit_of (48 + n) ≡ n
@@ -53,7 +53,7 @@ no_prefix (a ∷ b ∷ bs) only =
 value_spelt : (n : ℕ) (ds : List ℕ) → n < 2 ^ 32 → Spelt n ds → value_of ds ≡ Ok n
 value_spelt n ds small s =
     cond-false _ _ _ (and_right _ _ (no_prefix ds s.only))
-    ∙ numeral_small 10 ds n s.some s.only (omega (arith, s.value)) small
+    ∙ numeral_small 10 ds n s.some s.only s.value small
 
 digit_dark : (b : ℕ) → ltb (digit_of b) 10 ≡ true → white b ≡ false
 digit_dark b h = grind (arith, nat_tests)

@@ -1,7 +1,7 @@
 -- Lines and columns of a text.
-use Rattle.std.specs.Prelude.{ℕ, ◌+◌, Bool, not, List, take, count_by, ◌==◌}
+use Rattle.std.specs.Prelude.{ℕ, ◌+◌, Bool, not, List, ◌++◌, take, count_by, codes, decimal, ◌==◌}
 use Rattle.std.specs.List.{prefix_len, suffix_len}
-use Rattle.wordtext.specs.declared.places.Position.{Position}
+use Rattle.wordtext.specs.declared.Position.{Position}
 
 abbrev pub newline : ℕ → Bool
 newline b = b == 10
@@ -18,3 +18,7 @@ position_of text place =
 -- how many bytes come before the first newline, or all of them
 abbrev pub first_line_of : List ℕ → ℕ
 first_line_of text = prefix_len within_line text
+
+-- a position as it is printed
+abbrev pub position_text : Position → List ℕ
+position_text p = codes "line " ++ (decimal p.line ++ (codes ", column " ++ decimal p.column))

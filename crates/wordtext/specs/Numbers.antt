@@ -1,5 +1,5 @@
 -- The number that one piece of text writes.
-use Rattle.std.specs.Prelude.{ℕ, ◌-◌, ◌^◌, Bool, true, cond, ◌&&◌, List, [], ◌∷◌, map, drop, Ok, Err, Result, ◌==◌, nat_le, nat_lt, slice_index}
+use Rattle.std.specs.Prelude.{ℕ, codes, ◌-◌, ◌^◌, Bool, true, cond, ◌&&◌, List, [], ◌∷◌, map, drop, Ok, Err, Result, ◌==◌, nat_le, nat_lt, slice_index}
 use Rattle.std.specs.Int.Digits.{number_from_digits}
 use Rattle.wordtext.specs.declared.Problem.{Problem}
 use Rattle.wordtext.specs.declared.Problem.TheVariants.{NotANumber, TooLarge}
@@ -32,3 +32,8 @@ hexadecimal piece = slice_index piece 0 == 48 && slice_index piece 1 == 120
 -- hexadecimal digits after `0x`, or else decimal digits
 abbrev pub value_of : List ℕ → Result ℕ Problem
 value_of piece = cond (hexadecimal piece) (numeral_value 16 (drop 2 piece)) (numeral_value 10 piece)
+
+-- a problem as it is printed
+abbrev pub problem_text : Problem → List ℕ
+problem_text NotANumber = codes "not a number; write it in decimal, or in hexadecimal after 0x"
+problem_text TooLarge = codes "the number does not fit 32 bits"

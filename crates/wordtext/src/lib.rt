@@ -1,27 +1,33 @@
 // Reads 32-bit words as text: decimal numbers, or hexadecimal ones after `0x`, with white space between them.
 #![tactic(auto)]
 
-ghost use Rattle.std.specs.Prelude.{◌≡◌, ◌+◌, ◌<◌, ◌≤◌, length, drop, if◌then◌else◌, Some, None, nat_lt};
-ghost use Rattle.std.specs.List.{prefix_len};
-ghost use Rattle.wordtext.specs.Lines.{newline, position_of, first_line_of};
-ghost use Rattle.wordtext.specs.Numbers.{digit_of, numeral_value, value_of};
-ghost use Rattle.wordtext.specs.Texts.{white, dark, Parsed, Longest, ReadsBack};
+ghost use Rattle.std.specs.Prelude.{◌≡◌, ◌+◌, ◌^◌, ◌<◌, ◌≤◌, length, drop, if◌then◌else◌, Some, None, IfSome, nat_lt};
+ghost use Rattle.std.specs.Iterator.{item_count, YieldsFirstBy};
+ghost use Rattle.std.specs.List.{position, prefix_len, suffix_len};
+ghost use Rattle.wordtext.specs.Lines.{within_line, position_of, first_line_of, position_text};
+ghost use Rattle.wordtext.specs.Numbers.{digit_of, numeral_value, value_of, problem_text};
+ghost use Rattle.wordtext.specs.Texts.{white, dark, pieces, Parsed, Longest, ReadsBack};
 ghost use Rattle.wordtext.specs.declared.Failure.TheVariants.{NoMemory};
 
 use std::alloc::{AllocFailed, Global};
-
-mod places;
-
-pub use places::Position;
-
-// The first value that 32 bits do not hold.
-const LIMIT: u64 = 0x1_0000_0000;
+use std::fmt;
 
 // Why a piece is no word: `TooLarge` where it is a number of 2^32 or more.
 #[derive(Clone, Copy, PartialEq, Eq, Debug)]
 pub enum Problem {
     NotANumber,
     TooLarge,
+}
+
+impl fmt::Display for Problem {
+    ghost output = { λ problem. Some (problem_text problem) };
+
+    fn fmt<W: fmt::Write>(&self, f: &mut fmt::Formatter<W>) -> fmt::Result {
+        f.write_str(match self {
+            Problem::NotANumber => "not a number; write it in decimal, or in hexadecimal after 0x",
+            Problem::TooLarge => "the number does not fit 32 bits",
+        })
+    }
 }
 
 // The first piece that is no word, `text[from..end]`.
@@ -39,6 +45,7 @@ pub enum Failure {
     NoMemory,
 }
 
+// By hand, since the contract of `parse` names the failure that its `?` makes.
 impl<T: Drop> From<AllocFailed<T>> for Failure {
     ghost from_gives = { λ _ r. r ≡ NoMemory };
 
@@ -48,41 +55,31 @@ impl<T: Drop> From<AllocFailed<T>> for Failure {
 }
 
 // The digit that a byte writes in the base.
-fn digit(byte: u8, base: u64) -> Option<u64>
-    requires { base ≤ 16 }
+fn digit(byte: u8, base: u32) -> Option<u32>
+    requires low { 2 ≤ base }
+    requires high { base ≤ 16 }
     ensures { result ≡ (if nat_lt (digit_of byte) base then Some (digit_of byte) else None) }
 {
-    let value = match byte {
-        b'0'..=b'9' => byte - b'0',
-        b'a'..=b'f' => byte - b'a' + 10,
-        b'A'..=b'F' => byte - b'A' + 10,
-        _ => return None,
-    };
-    let value = u64::from(value);
-    if value < base { Some(value) } else { None }
+    char::from(byte).to_digit(base)
 }
 
-// The number that digits of the base write. Once it is past the limit, the other bytes must still be digits.
-fn numeral(digits: &[u8], base: u64) -> Result<u32, Problem>
-    requires low { 0 < base }
+// The number that digits of the base write. Once it is too large, the other bytes must still be digits.
+// `from_str_radix` takes a sign too, and stops at the digit that makes it too large.
+#[tactic(auto, using(crate::proofs::Numerals::numeral_bad, std::proofs::lemmas::Grind::common_steps))]
+fn numeral(digits: &[u8], base: u32) -> Result<u32, Problem>
+    requires low { 2 ≤ base }
     requires high { base ≤ 16 }
     ensures { result ≡ numeral_value base digits.now }
 {
     if digits.is_empty() {
         return Err(Problem::NotANumber);
     }
-    let mut value: u64 = 0;
+    let mut value = Some(0u32);
     for byte in digits {
-        let Some(d) = digit(*byte, base) else {
-            return Err(Problem::NotANumber);
-        };
-        value = (value * base + d).min(LIMIT);
+        let digit = digit(*byte, base).ok_or(Problem::NotANumber)?;
+        value = value.and_then(|value| value.checked_mul(base)?.checked_add(digit));
     }
-    if value < LIMIT {
-        Ok(value as u32)
-    } else {
-        Err(Problem::TooLarge)
-    }
+    value.ok_or(Problem::TooLarge)
 }
 
 // The word that a piece without white space writes: decimal digits, or `0x` and hexadecimal digits.
@@ -95,87 +92,123 @@ pub fn number(piece: &[u8]) -> Result<u32, Problem>
     }
 }
 
-// Tab, line feed, vertical tab, form feed, carriage return and space.
+// Tab, line feed, vertical tab, form feed, carriage return and space. `is_ascii_whitespace` has no vertical tab.
 fn is_white(byte: u8) -> bool
     ensures { result ≡ white byte }
 {
     matches!(byte, 9..=13 | 32)
 }
 
-// Where a piece that begins at `from` ends: at the next white space, or at the end of the text.
-fn piece_end(text: &[u8], from: usize) -> usize
-    requires { from ≤ length text.now }
-    ensures within { result ≤ length text.now }
-    ensures value { result ≡ from + prefix_len dark (drop from text.now) }
+// Where the first byte stands that is no white space.
+fn first_dark(bytes: &[u8]) -> Option<usize>
+    ensures value { result ≡ position dark bytes.now }
+    ensures within { IfSome result (λ place. place < length bytes.now) }
 {
-    for end in from..text.len() {
-        if is_white(text[end]) {
-            return end;
-        }
+    bytes.iter().position(|b| !is_white(*b))
+}
+
+// How many bytes come before the first white space.
+fn leading_dark(bytes: &[u8]) -> usize
+    ensures value { result ≡ prefix_len dark bytes.now }
+    ensures within { result ≤ length bytes.now }
+{
+    bytes.iter().take_while(|b| !is_white(**b)).count()
+}
+
+// Bytes without white space, and the place of the first.
+#[derive(Clone, Copy)]
+struct Piece<'a> {
+    from: usize,
+    bytes: &'a [u8],
+    ghost fits: { from + length bytes.now < 2 ^ 64 },
+}
+
+// The pieces of a text from a place on. Past the end there are none.
+#[derive(Clone, Copy)]
+struct Pieces<'a> {
+    text: &'a [u8],
+    at: usize,
+}
+
+impl<'a> Iterator for Pieces<'a> {
+    type Item = Piece<'a>;
+
+    ghost next_gives = { YieldsFirstBy (λ p. record { place = p.from; bytes = p.bytes.now }) (λ s. pieces s.at (drop s.at s.text.now)) };
+
+    ghost remaining = { item_count (λ s. pieces s.at (drop s.at s.text.now)) };
+
+    #[tactic(auto, using(crate::proofs::Cuts::no_piece, crate::proofs::Cuts::next_piece))]
+    fn next(&mut self) -> Option<Piece<'a>> {
+        let from = self.at + first_dark(self.text.get(self.at..)?)?;
+        let end = from + leading_dark(&self.text[from..]);
+        self.at = end;
+        Some(Piece {
+            from,
+            bytes: &self.text[from..end],
+        })
     }
-    text.len()
 }
 
 // The words of the text from byte `start` on, or the first piece that is no word. Past the end there are no words.
+#[tactic(auto, using(crate::proofs::Cuts::cut, crate::proofs::Printed::reads_back))]
 pub fn parse(heap: Global, text: &[u8], start: usize) -> Result<Vec<u32>, Failure>
     ensures words { Parsed text.now start result }
     ensures longest { Longest }
     ensures back { ReadsBack }
 {
     let mut words = Vec::new(heap);
-    let mut at = start;
-    while at < text.len() {
-        if is_white(text[at]) {
-            at += 1;
-            continue;
-        }
-        let end = piece_end(text, at);
-        match number(&text[at..end]) {
-            Ok(word) => words.push(word)?,
-            Err(problem) => {
-                let from = at;
-                return Err(Failure::Bad(Fault { problem, from, end }));
-            }
-        }
-        at = end;
+    let pieces = Pieces { text, at: start };
+    for Piece { from, bytes } in pieces {
+        let end = from + bytes.len();
+        let word = number(bytes).map_err(|problem| Failure::Bad(Fault { problem, from, end }))?;
+        words.push(word)?;
     }
     Ok(words)
 }
 
-fn is_newline(byte: u8) -> bool
-    ensures { result ≡ newline byte }
+// How many bytes stand behind the last newline.
+fn last_line_len(bytes: &[u8]) -> usize
+    ensures value { result ≡ suffix_len within_line bytes.now }
+    ensures within { result ≤ length bytes.now }
 {
-    matches!(byte, b'\n')
+    bytes.iter().rev().take_while(|b| **b != b'\n').count()
 }
 
-// The line and the column of a place: newlines end lines, and a place past the end counts as the end.
-pub fn position(text: &[u8], place: usize) -> Position
-    ensures { result ≡ position_of text.now place }
-{
-    let before = &text[0..place.min(text.len())];
-    let mut line = 1;
-    let mut column = 1;
-    for byte in before {
-        if *byte == b'\n' {
-            line += 1;
-            column = 1;
-        } else {
-            column += 1;
+// A line and a column, both from 1.
+#[derive(Clone, Copy, PartialEq, Eq, Debug)]
+pub struct Position {
+    pub line: usize,
+    pub column: usize,
+}
+
+impl Position {
+    // The line and the column of a place: newlines end lines, and a place past the end counts as the end.
+    #[tactic(auto, using(std::proofs::lemmas::List::take_min))]
+    pub fn of(text: &[u8], place: usize) -> Position
+        ensures { result ≡ position_of text.now place }
+    {
+        let before = &text[..place.min(text.len())];
+        Position {
+            line: 1 + before.iter().filter(|b| **b == b'\n').count(),
+            column: 1 + last_line_len(before),
         }
     }
-    Position { line, column }
+}
+
+impl fmt::Display for Position {
+    ghost output = { λ position. Some (position_text position) };
+
+    fn fmt<W: fmt::Write>(&self, f: &mut fmt::Formatter<W>) -> fmt::Result {
+        write!(f, "line {}, column {}", self.line, self.column)
+    }
 }
 
 // Where the first line ends: at the first newline, or at the end of the text.
 pub fn first_line(text: &[u8]) -> usize
-    ensures { result ≡ first_line_of text.now }
+    ensures value { result ≡ first_line_of text.now }
+    ensures within { result ≤ length text.now }
 {
-    for end in 0..text.len() {
-        if is_newline(text[end]) {
-            return end;
-        }
-    }
-    text.len()
+    text.iter().take_while(|b| **b != b'\n').count()
 }
 
 #[cfg(test)]
@@ -262,10 +295,10 @@ mod tests {
         let text = b"ab\n\ncd";
         assert_eq!(rt; first_line(text), 2);
         assert_eq!(rt; first_line(b"ab"), 2);
-        assert_eq!(rt; position(text, 0), Position { line: 1, column: 1 });
-        assert_eq!(rt; position(text, 2), Position { line: 1, column: 3 });
-        assert_eq!(rt; position(text, 3), Position { line: 2, column: 1 });
-        assert_eq!(rt; position(text, 5), Position { line: 3, column: 2 });
-        assert_eq!(rt; position(text, 99), Position { line: 3, column: 3 });
+        assert_eq!(rt; Position::of(text, 0), Position { line: 1, column: 1 });
+        assert_eq!(rt; Position::of(text, 2), Position { line: 1, column: 3 });
+        assert_eq!(rt; Position::of(text, 3), Position { line: 2, column: 1 });
+        assert_eq!(rt; Position::of(text, 5), Position { line: 3, column: 2 });
+        assert_eq!(rt; Position::of(text, 99), Position { line: 3, column: 3 });
     }
 }

@@ -1,28 +1,15 @@
-use Rattle.std.proofs.Common.{◌<◌, length, sym, ◌∙◌, arith}
-use Rattle.std.proofs.lemmas.List.{take_all}
-use Rattle.std.proofs.lemmas.Bool.{eqb-false}
-use Rattle.wordtext.proofs.Numerals.{digit_some, digit_none, digits_fail, digit_more, numeral_small, numeral_large, numeral_bad}
+use Rattle.std.proofs.Common.{rules, ◌≡◌, ◌*◌, ◌+◌, true, ltb, get_or, option_and_then, arith}
+use Rattle.std.proofs.lemmas.Grind.{common_steps}
+use Rattle.wordtext.specs.Numbers.{digit_of}
+use Rattle.wordtext.proofs.Numerals.{held, digit_more}
 use Rattle.wordtext.proofs.numeral.Goals as goal
-
-pub returns-in_default : goal.returns-in_default
-returns-in_default c =
-    let e = digit_none _ _ c.in_default.ensures in
-    sym (numeral_bad c.args.base c.args.digits.now (digits_fail c.args.base c.args.digits.now c.loop-byte.byte-index c.loop-byte-test.true e))
 
 pub loop-byte-preserved : goal.loop-byte-preserved
 loop-byte-preserved c =
-    let e = digit_some _ _ _ c.in-Some.ensures in
-    let h = digit_more c.args.base c.args.digits.now c.loop-byte.byte-index c.loop-byte.value c.in-Some.d c.requires.low c.loop-byte-test.true e.0 e.1 c.loop-byte.invariant.0 c.loop-byte.invariant.1 in
-    (h.0, c.min-value.ensures ∙ h.1)
-
-pub returns-then-value-lt-LIMIT : goal.returns-then-value-lt-LIMIT
-returns-then-value-lt-LIMIT c =
-    let t = take_all c.loop-byte.byte-index c.args.digits.now c.loop-byte-test.false in
-    let some : 0 < length c.args.digits.now = omega (arith, eqb-false (length c.args.digits.now) 0 (sym c.if-is_empty.ensures)) in
-    sym (numeral_small c.args.base c.args.digits.now c.loop-byte.value some (rw t at c.loop-byte.invariant.0) (rw t at c.loop-byte.invariant.1) c.if-value-lt-LIMIT.true)
-
-pub returns-else-value-lt-LIMIT : goal.returns-else-value-lt-LIMIT
-returns-else-value-lt-LIMIT c =
-    let t = take_all c.loop-byte.byte-index c.args.digits.now c.loop-byte-test.false in
-    let some : 0 < length c.args.digits.now = omega (arith, eqb-false (length c.args.digits.now) 0 (sym c.if-is_empty.ensures)) in
-    sym (numeral_large c.args.base c.args.digits.now c.loop-byte.value some (rw t at c.loop-byte.invariant.0) (rw t at c.loop-byte.invariant.1) c.if-value-lt-LIMIT.false)
+    let is : ltb (digit_of (get_or c.args.digits.now c.loop-byte.byte-index 0)) c.args.base ≡ true = grind (arith, common_steps) in
+    let worth : c.in_ok-digit.digit ≡ digit_of (get_or c.args.digits.now c.loop-byte.byte-index 0) = grind (arith, common_steps) in
+    let more : c.and_then-value.result ≡ option_and_then (λ n. held (n * c.args.base + c.in_ok-digit.digit)) c.loop-byte.value = search rules in
+    let next =
+    digit_more c.args.base c.args.digits.now c.loop-byte.byte-index c.in_ok-digit.digit c.loop-byte.value c.and_then-value.result (omega arith)
+    c.loop-byte-test.true is worth c.loop-byte.invariant.only c.loop-byte.invariant.number more in
+    record { only = next.0; number = next.1 }
