@@ -1,5 +1,6 @@
 -- Buffers, and steps along a segment's row of things.
-use Rattle.std.specs.Prelude.{ℕ, ◌+◌, ◌-◌, Bool, cond, ◌&&◌, List, [], ◌∷◌, length, Some, None, Option, ◌==◌, nat_le, nat_lt}
+use Rattle.std.specs.Prelude.{ℕ, ◌+◌, ◌-◌, Bool, cond, ◌&&◌, List, find, length, Some, None, Option, ◌==◌, nat_le, nat_lt}
+use Rattle.std.specs.Option.{option_map}
 use borrow.Rule.Slice.PartMut.{put_mid}
 use Rattle.format.specs.declared.things.Head.{Head}
 use Rattle.format.specs.declared.things.Head.TheVariants.{Nothing, Object, Forwarded, Padding}
@@ -19,8 +20,7 @@ begins b a = b.init == a && nat_lt a b.limit
 
 -- where the buffer ends that begins at a
 abbrev pub buffer_at : List Buffer → ℕ → Option ℕ
-buffer_at [] a = None
-buffer_at (b ∷ bs) a = cond (begins b a) (Some b.limit) (buffer_at bs a)
+buffer_at bs a = option_map (λ (b : Buffer). b.limit) (find (λ b. begins b a) bs)
 
 -- the step over a thing
 abbrev pub step_over : Meaning → ℕ → Head → Option Step

@@ -22,6 +22,7 @@ fn fitting_run(from: usize, end: usize, size: usize) -> Option<Buffer>
 
 impl<F: Format> Rows<'_, F> {
     // The lowest run of at least so many words in a row.
+    #[tactic(auto, using(crate::proofs::Walks::walking))]
     fn run_in_row(&self, from: usize, end: usize, size: usize) -> Option<Buffer>
         ensures { result ≡ run_in (F.Format.meaning self.now.format.now) self.now.buffers.now self.now.words.now size end from }
     {
@@ -63,11 +64,7 @@ impl<F: Format> Rows<'_, F> {
     pub fn lowest_run(&self, segments: &Segments, pool: u8, size: usize) -> Option<Buffer>
         ensures { result ≡ lowest_run (F.Format.meaning self.now.format.now) segments.now self.now.buffers.now self.now.words.now pool size }
     {
-        for segment in 1..(self.words.len() / 256).min(256) {
-            if let Some(found) = self.run_in_segment(segments, segment as u8, pool, size) {
-                return Some(found);
-            }
-        }
-        None
+        (1..(self.words.len() / 256).min(256))
+            .find_map(|segment| self.run_in_segment(segments, segment as u8, pool, size))
     }
 }

@@ -50,12 +50,9 @@ impl Segments {
         ensures answer { result ≡ lowest_free_from self.now words from }
         ensures inside { InsideFrom from words result }
     {
-        for segment in from..(words / 256).min(256) {
-            if self.owner(segment as u8).is_none() {
-                return Some(segment as u8);
-            }
-        }
-        None
+        (from..(words / 256).min(256))
+            .find(|segment| self.owner(*segment as u8).is_none())
+            .map(|segment| segment as u8)
     }
 
     // Frees a segment that lies in the arena: all its words are 0, and it is nobody's.
