@@ -64,7 +64,11 @@ impl<F: Format> Rows<'_, F> {
     pub fn lowest_run(&self, segments: &Segments, pool: u8, size: usize) -> Option<Buffer>
         ensures { result ≡ lowest_run (F.Format.meaning self.now.format.now) segments.now self.now.buffers.now self.now.words.now pool size }
     {
-        (1..(self.words.len() / 256).min(256))
-            .find_map(|segment| self.run_in_segment(segments, segment as u8, pool, size))
+        (1..(self.words.len() / 256).min(256)).find_map(|segment| self.run_in_segment(
+            segments,
+            segment as u8,
+            pool,
+            size,
+        ))
     }
 }

@@ -13,6 +13,6 @@ returns-clause-answer c =
     let n = segments_in c.args.words in
     let test = λ (s : ℕ). is_none (owner_of c.args.self.now s) in
     let e : option_map (λ (x : ℕ). x) c.find.result ≡ find test (range_with_len c.args.from (n - c.args.from)) =
-        find_from_yields_List test _ _ c.find.result c.find.ensures.ran (YieldsList-from_range c.args.from n (n - c.args.from) (cc) (cc)) (λ x b q k. search (rules, tests)) in
+    find_from_yields_List test _ _ c.find.result c.find.ensures.ran (YieldsList-from_range c.args.from n (n - c.args.from) (cc) (cc)) (λ x b q k. search (rules, tests)) in
     let f : c.map.result ≡ option_map (λ (x : ℕ). x) c.find.result = search rules in
     f ∙ e ∙ free_found c.args.self.now (n - c.args.from) c.args.from
