@@ -1,9 +1,9 @@
 -- What `find_map` over a range finds: the first answer.
-use Rattle.std.proofs.Common.{◌≡◌, ℕ, ◌+◌, ◌-◌, ◌<◌, ◌≤◌, Bool, true, Some, None, Option, MatchOption, IfSome, IsSomeAnd, ap, ◌∙◌, subst, arith}
+use Rattle.std.proofs.Common.{◌≡◌, ℕ, ◌+◌, ◌-◌, ◌<◌, ◌≤◌, true, Some, None, Option, MatchOption, IfSome, IsSomeAnd, ap, ◌∙◌, subst, arith}
 use denote.Param.Members.{Mut, Called}
 use Rattle.std.specs.declared.ops.Range.{Range}
 use Rattle.std.specs.Option.{option_map}
-use Rattle.std.specs.Iterator.Runs.{Run, SomeRun, AllItemsGive, IsFirstToGive, ItemsCountUp, CallKeepsClosure}
+use Rattle.std.specs.Iterator.Runs.{SomeRun, AllItemsGive, IsFirstToGive, ItemsCountUp, CallKeepsClosure}
 use Rattle.std.proofs.iter.Yields.{nat_range_steps}
 use Rattle.std.proofs.iter.runs.Sources.{range_runs}
 

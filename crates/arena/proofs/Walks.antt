@@ -1,6 +1,8 @@
 -- Walks along a row, and the runs that they find.
 use Rattle.std.proofs.Common.{◌≡◌, ℕ, zero, suc, ◌-◌, ◌<◌, ◌≤◌, ◌&&◌, eqb, ltb, leb, ◌≢◌, ◌⊎◌, List, [], ◌∷◌, ◌++◌, length, Some, None, Option, sym, refl, ap, ◌∙◌, subst, inl, inr, arith}
-use Rattle.std.proofs.lemmas.Bool.{cond_both, cond-true, cond-false, cases_Bool, and_parts, and_left, ltb-true, le-ltb}
+use Rattle.std.proofs.lemmas.Bool.{cond_both, cond-false, cases_Bool, and_parts, and_left, ltb-true, le-ltb}
+use Rattle.std.proofs.lemmas.List.Folds.{find-append}
+use Rattle.std.specs.Option.{option_or}
 use Rattle.format.specs.declared.things.Head.{Head}
 use Rattle.format.specs.declared.things.Head.TheVariants.{Nothing, Object, Forwarded, Padding}
 use Rattle.format.specs.Meaning.{Meaning, extent, seen}
@@ -10,7 +12,7 @@ use Rattle.arena.specs.declared.buffers.Buffer.{Buffer}
 use Rattle.arena.specs.declared.buffers.Step.{Step}
 use Rattle.arena.specs.declared.buffers.Step.TheVariants.{Thing, Padding as Pads, Buffer as Passed}
 use Rattle.arena.specs.Buffers.{begins, buffer_at, step_over, step_by, step_at}
-use Rattle.arena.specs.Runs.{closed, runs_by, runs_from, fits, first_fit, fitting, or_else}
+use Rattle.arena.specs.Runs.{closed, runs_by, runs_from, fits, first_fit, fitting}
 
 -- ---- a step goes on
 
@@ -79,15 +81,6 @@ module _ (m : Meaning) (bs : List Buffer) (ws : List ℕ) (e : ℕ) where
       let k : e - a ≡ suc (e - a - 1) = omega arith in
       ap (λ z. runs z run a) k ∙ ap (runs_by (runs (e - a - 1)) run a) (sym h)
 
-  first_append : (size : ℕ) (xs ys : List Buffer) → first_fit size (xs ++ ys) ≡ or_else (first_fit size xs) (first_fit size ys)
-  first_append size [] ys = refl
-  first_append size (x ∷ xs) ys =
-      elim (cases_Bool (fits size x)) [
-        | inl t ↦ cond-true (fits size x) (Some x) (first_fit size (xs ++ ys)) t ∙ sym (ap (λ o. or_else o (first_fit size ys)) (cond-true (fits size x) (Some x) (first_fit size xs) t))
-        | inr f ↦ cond-false (fits size x) (Some x) (first_fit size (xs ++ ys)) f ∙ first_append size xs ys
-            ∙ sym (ap (λ o. or_else o (first_fit size ys)) (cond-false (fits size x) (Some x) (first_fit size xs) f))
-      ]
-
   -- what is to be found from a on
   abbrev pub found_from : ℕ → ℕ → ℕ → Option Buffer
   found_from size run a = first_fit size (runs (e - a) run a)
@@ -101,14 +94,14 @@ module _ (m : Meaning) (bs : List Buffer) (ws : List ℕ) (e : ℕ) where
       ap (first_fit size) (unrolled run a (Some (Pads n)) h o.0 ∙ runs_same (e - a - 1) (e - n) run n (omega (arith, o)) (omega (arith, o)))
 
   found_else : (size run a n : ℕ) → (a < e) × (a < n) → runs (e - a) run a ≡ closed run a ++ runs (e - a - 1) n n
-      → found_from size run a ≡ or_else (fitting size run a) (found_from size n n)
+      → found_from size run a ≡ option_or (fitting size run a) (found_from size n n)
   found_else size run a n o u =
       ap (first_fit size) (u ∙ ap (λ z. closed run a ++ z) (runs_same (e - a - 1) (e - n) n n (omega (arith, o)) (omega (arith, o))))
-      ∙ first_append size (closed run a) (runs (e - n) n n)
+      ∙ find-append (fits size) (closed run a) (runs (e - n) n n)
 
   -- a step over a thing or a buffer ends a run
   found_ended : (size run a n : ℕ) (s : Step) → (s ≡ Thing n) ⊎ (s ≡ Passed n) → Some s ≡ step_at m bs ws e a
-      → found_from size run a ≡ or_else (fitting size run a) (found_from size n n)
+      → found_from size run a ≡ option_or (fitting size run a) (found_from size n n)
   found_ended size run a n s (inl k) h =
       let o : Onward e a (Some (Thing n)) = subst (Onward e a) (sym h ∙ ap Some k) (onward a) in
       found_else size run a n o (unrolled run a (Some (Thing n)) (ap Some (sym k) ∙ h) o.0)
@@ -117,8 +110,8 @@ module _ (m : Meaning) (bs : List Buffer) (ws : List ℕ) (e : ℕ) where
       found_else size run a n o (unrolled run a (Some (Passed n)) (ap Some (sym k) ∙ h) o.0)
 
   pub found_fits : (size run a n : ℕ) (s : Step) (o : Option Buffer) → (s ≡ Thing n) ⊎ (s ≡ Passed n) → Some s ≡ step_at m bs ws e a
-      → o ≡ fitting size run a → found_from size run a ≡ or_else o (found_from size n n)
-  found_fits size run a n s o k h f = found_ended size run a n s k h ∙ ap (λ (o : Option Buffer). or_else o (found_from size n n)) (sym f)
+      → o ≡ fitting size run a → found_from size run a ≡ option_or o (found_from size n n)
+  found_fits size run a n s o k h f = found_ended size run a n s k h ∙ ap (λ (o : Option Buffer). option_or o (found_from size n n)) (sym f)
 
 -- the steps of a walk, as the loop of `run_in_row` takes them
 pub ruleset walking = (onward, found_stop, found_padding)

@@ -1,5 +1,6 @@
 -- Runs of paddings.
-use Rattle.std.specs.Prelude.{ℕ, zero, suc, ◌+◌, ◌-◌, ◌*◌, Bool, false, cond, List, [], ◌∷◌, ◌++◌, length, Some, None, Option, ◌==◌, nat_le, nat_lt}
+use Rattle.std.specs.Prelude.{ℕ, zero, suc, ◌+◌, ◌-◌, ◌*◌, Bool, false, cond, List, [], ◌∷◌, ◌++◌, find, length, Some, None, Option, ◌==◌, nat_le, nat_lt}
+use Rattle.std.specs.Option.{option_or}
 use Rattle.format.specs.Meaning.{Meaning}
 use Rattle.arena.specs.declared.buffers.Buffer.{Buffer}
 use Rattle.arena.specs.declared.buffers.Step.{Step}
@@ -34,8 +35,7 @@ fits size r = nat_le size (r.limit - r.init)
 
 -- the first run that has as many words as are wanted
 abbrev pub first_fit : ℕ → List Buffer → Option Buffer
-first_fit size [] = None
-first_fit size (r ∷ rs) = cond (fits size r) (Some r) (first_fit size rs)
+first_fit size rs = find (fits size) rs
 
 abbrev pub fitting : ℕ → ℕ → ℕ → Option Buffer
 fitting size a e = first_fit size (closed a e)
@@ -51,14 +51,10 @@ is_pool p (Some q) = q == p
 abbrev pub run_of : Meaning → Segments → List Buffer → List ℕ → ℕ → ℕ → ℕ → Option Buffer
 run_of m g bs ws p size s = cond (is_pool p (owner_of g s)) (run_in m bs ws size (s * 256 + 256) (s * 256)) None
 
-abbrev pub or_else : Option Buffer → Option Buffer → Option Buffer
-or_else None rest = rest
-or_else (Some r) rest = Some r
-
 -- the lowest run that fits among the k segments from s on
 abbrev pub run_among : ℕ → Meaning → Segments → List Buffer → List ℕ → ℕ → ℕ → ℕ → Option Buffer
 run_among zero m g bs ws p size s = None
-run_among (suc k) m g bs ws p size s = or_else (run_of m g bs ws p size s) (run_among k m g bs ws p size (s + 1))
+run_among (suc k) m g bs ws p size s = option_or (run_of m g bs ws p size s) (run_among k m g bs ws p size (s + 1))
 
 abbrev pub lowest_run : Meaning → Segments → List Buffer → List ℕ → ℕ → ℕ → Option Buffer
 lowest_run m g bs ws p size = run_among (segments_in (length ws) - 1) m g bs ws p size 1

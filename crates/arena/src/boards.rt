@@ -39,15 +39,11 @@ pub fn clear_all(board: &mut [u32])
     board.fill(0);
 }
 
-// The first word from a place up to an end that is not 0.
-fn first_word(board: &[u32], from: usize, end: usize) -> Option<usize>
-    requires { (from ≤ end) × (end ≤ length board.now) }
-    ensures { FirstWord board.now from end result }
+// The first of the words that is not 0.
+fn first_word(words: &[u32]) -> Option<usize>
+    ensures { FirstWord words.now 0 (length words.now) result }
 {
-    board[from..end]
-        .iter()
-        .position(|word| *word != 0)
-        .map(|i| from + i)
+    words.iter().position(|word| *word != 0)
 }
 
 // The lowest bit that is set, of those from a place on.
@@ -62,7 +58,9 @@ pub fn lowest_from(board: &[u32], from: usize) -> Option<usize>
     if rest != 0 {
         return Some(from + rest.trailing_zeros() as usize);
     }
-    first_word(board, from / 32 + 1, end).map(|i| i * 32 + board[i].trailing_zeros() as usize)
+    let next = from / 32 + 1;
+    first_word(&board[next..end]).map(|i| (next + i) * 32
+        + board[next + i].trailing_zeros() as usize)
 }
 
 // How many bits are set in the words of a board that is not too long.

@@ -39,7 +39,6 @@ pub enum Step {
 }
 
 // An arena's words, read in a format, with the buffers that a walk passes over.
-#[derive(Drop)]
 #[derive_where(Clone, Copy)]
 pub struct Rows<'a, F> {
     pub format: &'a F,
@@ -58,6 +57,19 @@ impl<F: Format> Rows<'_, F> {
             .map(|buffer| buffer.limit)
     }
 
+    // The step over what stands at a place.
+    fn step_over(&self, place: usize, head: Head) -> Option<Step>
+        requires { place + extent (F.Format.meaning self.now.format.now) head < 2 ^ 64 }
+        ensures { result ≡ step_over (F.Format.meaning self.now.format.now) place head }
+    {
+        match head {
+            Head::Nothing => None,
+            Head::Object(shape) => Some(Step::Thing(place + self.format.size(shape))),
+            Head::Forwarded { size, .. } => Some(Step::Thing(place + size)),
+            Head::Padding { size } => Some(Step::Padding(place + size)),
+        }
+    }
+
     // The step from a place of a row that ends at `end`: over a buffer, over a thing that lies before
     // the end, or none.
     pub fn next_step(&self, place: usize, end: usize) -> Option<Step>
@@ -68,25 +80,8 @@ impl<F: Format> Rows<'_, F> {
         }
         match self.buffer_end(place) {
             Some(limit) => Some(Step::Buffer(limit)),
-            None => step_over(
-                self.format,
-                place,
-                look(self.format, &self.words[place..end]),
-            ),
+            None => self.step_over(place, look(self.format, &self.words[place..end])),
         }
-    }
-}
-
-// The step over what stands at a place.
-fn step_over<F: Format>(format: &F, place: usize, head: Head) -> Option<Step>
-    requires { place + extent (F.Format.meaning format.now) head < 2 ^ 64 }
-    ensures { result ≡ step_over (F.Format.meaning format.now) place head }
-{
-    match head {
-        Head::Nothing => None,
-        Head::Object(shape) => Some(Step::Thing(place + format.size(shape))),
-        Head::Forwarded { size, .. } => Some(Step::Thing(place + size)),
-        Head::Padding { size } => Some(Step::Padding(place + size)),
     }
 }
 

@@ -3,7 +3,7 @@ ghost use Rattle.std.specs.Prelude.{◌≡◌};
 ghost use Rattle.arena.specs.Runs.{fitting, run_in, run_of, lowest_run};
 
 use crate::buffers::{Buffer, Rows, Step};
-use crate::segments::Segments;
+use crate::segments::{Segments, segments_in};
 use format::Format;
 
 // The run from a place up to an end, if it has words, and as many as are wanted.
@@ -64,7 +64,7 @@ impl<F: Format> Rows<'_, F> {
     pub fn lowest_run(&self, segments: &Segments, pool: u8, size: usize) -> Option<Buffer>
         ensures { result ≡ lowest_run (F.Format.meaning self.now.format.now) segments.now self.now.buffers.now self.now.words.now pool size }
     {
-        (1..(self.words.len() / 256).min(256)).find_map(|segment| self.run_in_segment(
+        (1..segments_in(self.words.len())).find_map(|segment| self.run_in_segment(
             segments,
             segment as u8,
             pool,

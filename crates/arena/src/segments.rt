@@ -1,6 +1,6 @@
 // Segments of 256 words. Segment 0 is never used, so that address 0 can be null.
-ghost use Rattle.std.specs.Prelude.{◌≡◌, length};
-ghost use Rattle.arena.specs.Segments.{all_free, owner_of, owned, lowest_free, lowest_free_from, Inside, InsideFrom, freed, freed_words};
+ghost use Rattle.std.specs.Prelude.{◌≡◌, length, is_none};
+ghost use Rattle.arena.specs.Segments.{all_free, owner_of, owned, segments_in, lowest_free, lowest_free_from, Inside, InsideFrom, freed, freed_words};
 
 use crate::boards::clear_all;
 
@@ -11,6 +11,13 @@ pub type Owner = Option<u8>;
 #[derive(Clone, Copy)]
 pub struct Segments {
     owners: [Owner; 256],
+}
+
+// How many segments an arena of so many words has.
+pub(crate) fn segments_in(words: usize) -> usize
+    ensures { result ≡ segments_in words }
+{
+    (words / 256).min(256)
 }
 
 impl Segments {
@@ -28,6 +35,12 @@ impl Segments {
         ensures { result ≡ owner_of self.now segment }
     {
         self.owners[segment as usize]
+    }
+
+    fn is_free(&self, segment: u8) -> bool
+        ensures { result ≡ is_none (owner_of self.now segment) }
+    {
+        self.owner(segment).is_none()
     }
 
     // Gives a segment to a pool.
@@ -50,12 +63,13 @@ impl Segments {
         ensures answer { result ≡ lowest_free_from self.now words from }
         ensures inside { InsideFrom from words result }
     {
-        (from..(words / 256).min(256))
-            .find(|segment| self.owner(*segment as u8).is_none())
+        (from..segments_in(words))
             .map(|segment| segment as u8)
+            .find(|segment| self.is_free(*segment))
     }
 
     // Frees a segment that lies in the arena: all its words are 0, and it is nobody's.
+    #[tactic(auto, using(crate::proofs::Parts::part_freed))]
     pub fn free(&mut self, words: &mut [u32], segment: u8)
         ensures state { self.new ≡ freed self.old (length words.old) segment }
         ensures words { words.new ≡ freed_words words.old segment }

@@ -76,9 +76,8 @@ impl History {
         if self.epoch >= MOST_COLLECTIONS {
             return Err(Refusal::CollectionsSpent);
         }
-        let mut recent = self.recent;
-        recent[self.epoch as usize % DEPTH] = 0;
-        self.recent = recent.map(|set| set | zones);
+        self.recent[self.epoch as usize % DEPTH] = 0;
+        self.recent = self.recent.map(|set| set | zones);
         self.ever |= zones;
         self.epoch += 1;
         Ok(())
@@ -104,6 +103,7 @@ impl Dependency {
     }
 
     // Whether something that was entered may have moved.
+    #[tactic(auto, using(crate::proofs::Runs::never_misses))]
     pub fn stale(&self, history: &History) -> bool
         ensures answer { result ≡ is_stale history.now self.now }
         ensures laws { NeverMisses }

@@ -13,4 +13,4 @@ returns g c =
     let n = segments_in (length rows.words.now) in
     let first = first_from_find_map at _ _ (λ x o q k. search (rules, tests)) _ _ c.find_map.ensures.runs in
     sym (run_found m c.args.segments.now rows.buffers.now rows.words.now c.args.pool c.args.size (n - 1) 1 n c.find_map.result (cc)
-    (subst (λ e. First at 1 e c.find_map.result) c.min.ensures first))
+    (subst (λ e. First at 1 e c.find_map.result) c.segments_in.ensures first))
