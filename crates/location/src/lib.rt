@@ -146,11 +146,11 @@ mod tests {
         age_by(&mut history, ZONE, 1)?;
         let mut dependency = Dependency::reset(&history);
         dependency.enter(ADDRESS);
-        assert_eq!(rt; dependency.stale(&history), false);
+        assert!(rt; !dependency.stale(&history));
         age_by(&mut history, 0, 4)?;
-        assert_eq!(rt; dependency.stale(&history), false);
+        assert!(rt; !dependency.stale(&history));
         age_by(&mut history, 0, 1)?;
-        assert_eq!(rt; dependency.stale(&history), true);
+        assert!(rt; dependency.stale(&history));
         Ok(())
     }
 
@@ -161,13 +161,13 @@ mod tests {
             let mut dependency = Dependency::reset(&history);
             dependency.enter(ADDRESS);
             age_by(&mut history, 0xffff_fffd, 1)?;
-            assert_eq!(rt; dependency.stale(&history), false);
+            assert!(rt; !dependency.stale(&history));
             age_by(&mut history, ZONE, 1)?;
             age_by(&mut history, 0, later)?;
-            assert_eq!(rt; dependency.stale(&history), true);
+            assert!(rt; dependency.stale(&history));
             let mut anew = Dependency::reset(&history);
             anew.enter(ADDRESS);
-            assert_eq!(rt; anew.stale(&history), false);
+            assert!(rt; !anew.stale(&history));
         }
         Ok(())
     }
