@@ -1,4 +1,4 @@
-// A board has a bit for each word of the arena, 32 to a word.
+// A board has a bit for each word of the arena, 32 to a word. It is lent words, so these are functions.
 ghost use Rattle.std.specs.Prelude.{◌≡◌, ◌≤◌, length, replicate, sum_by, count_ones};
 ghost use Rattle.arena.specs.Boards.{bit, with_bit, without_bit, lowest_bit, FirstWord, ones_of, BoardLaws};
 
@@ -18,6 +18,7 @@ pub fn is_set(board: &[u32], a: usize) -> bool
 pub fn set_bit(board: &mut [u32], a: usize)
     ensures { board.new ≡ with_bit board.old a }
 {
+    // Not by `get_mut`: a proof does not know the board once that borrow is over.
     if a / 32 < board.len() {
         board[a / 32] |= 1 << (a % 32) as u32;
     }
@@ -27,6 +28,7 @@ pub fn set_bit(board: &mut [u32], a: usize)
 pub fn clear_bit(board: &mut [u32], a: usize)
     ensures { board.new ≡ without_bit board.old a }
 {
+    // As in `set_bit`.
     if a / 32 < board.len() {
         board[a / 32] &= !(1 << (a % 32) as u32);
     }
@@ -59,11 +61,14 @@ pub fn lowest_from(board: &[u32], from: usize) -> Option<usize>
         return Some(from + rest.trailing_zeros() as usize);
     }
     let next = from / 32 + 1;
-    first_word(&board[next..end]).map(|i| (next + i) * 32
-        + board[next + i].trailing_zeros() as usize)
+    first_word(&board[next..end]).map(|i| {
+        let word = next + i;
+        word * 32 + board[word].trailing_zeros() as usize
+    })
 }
 
-// How many bits are set in the words of a board that is not too long.
+// How many bits are set in words that are not too many. Apart, since behind a `take` in one chain a
+// proof does not see that the sum fits.
 fn ones_in(words: &[u32]) -> u32
     requires { length words.now ≤ 2048 }
     ensures { result ≡ sum_by count_ones words.now }

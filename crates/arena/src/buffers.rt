@@ -89,6 +89,7 @@ impl<F: Format> Rows<'_, F> {
 pub fn pad_part<F: Format>(format: &F, words: &mut [u32], from: usize, end: usize)
     ensures { words.new ≡ padded_part (F.Format.meaning format.now) from end words.old }
 {
+    // Not by `get_mut`: a proof does not know the words once that borrow is over.
     if from <= end && end <= words.len() {
         let _ = pad(format, &mut words[from..end]);
     }

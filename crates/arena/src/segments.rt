@@ -75,6 +75,7 @@ impl Segments {
         ensures words { words.new ≡ freed_words words.old segment }
     {
         let base = segment as usize * 256;
+        // Not by `get_mut`: a proof does not know the words once that borrow is over.
         if base + 256 <= words.len() {
             clear_all(&mut words[base..base + 256]);
             self.owners[segment as usize] = None;
