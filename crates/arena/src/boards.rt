@@ -1,5 +1,5 @@
 // A board has a bit for each word of the arena, 32 to a word. It is lent words, so these are functions.
-ghost use Rattle.std.specs.Prelude.{◌≡◌, ◌≤◌, length, replicate, sum_by, count_ones};
+ghost use Rattle.std.specs.Prelude.{◌≡◌, length, replicate};
 ghost use Rattle.arena.specs.Boards.{bit, with_bit, without_bit, lowest_bit, FirstWord, ones_of, BoardLaws};
 
 // The words of the longest board: 65,536 bits.
@@ -67,20 +67,15 @@ pub fn lowest_from(board: &[u32], from: usize) -> Option<usize>
     })
 }
 
-// How many bits are set in words that are not too many. Apart, since behind a `take` in one chain a
-// proof does not see that the sum fits.
-fn ones_in(words: &[u32]) -> u32
-    requires { length words.now ≤ 2048 }
-    ensures { result ≡ sum_by count_ones words.now }
-{
-    words.iter().map(|word| word.count_ones()).sum()
-}
-
 // How many bits are set.
-#[tactic(auto, using(crate::proofs::BoardLaws::counting))]
+#[tactic(auto, using(crate::proofs::BoardLaws::board_laws))]
 pub fn count_ones(board: &[u32]) -> u32
     ensures value { result ≡ ones_of board.now }
     ensures laws { BoardLaws }
 {
-    ones_in(&board[..board.len().min(LONGEST)])
+    board
+        .iter()
+        .take(LONGEST)
+        .map(|word| word.count_ones())
+        .sum()
 }
