@@ -51,13 +51,13 @@ lowest_one b a (Some r) (Some s) p q =
       ]
     ]
 
-pub lowest_found : (b : List ℕ) (a : ℕ) (r : Option ℕ) → Lowest b a r → r ≡ lowest_bit b a
+lowest_found : (b : List ℕ) (a : ℕ) (r : Option ℕ) → Lowest b a r → r ≡ lowest_bit b a
 lowest_found b a r h = lowest_one b a r (lowest_bit b a) h (lowest_is b a)
 
 -- ---- by words
 
 -- no bit from a on is set in the words below i
-abbrev pub ClearTo : List ℕ → ℕ → ℕ → Type 0
+abbrev ClearTo : List ℕ → ℕ → ℕ → Type 0
 ClearTo b a i = (k : ℕ) → a ≤ k → k < 32 * i → bit b k ≡ false
 
 -- bits of the word i, by their place in the board
@@ -91,7 +91,7 @@ found_in_word b a i l u c pos fits =
     )
 
 -- the bit that is lowest in the first word that is not 0, of those from i up to the end
-pub found_later : (b : List ℕ) (a i e : ℕ) (r : Option ℕ) → Words b → e ≡ min (length b) 2048 → a ≤ 32 * i → ClearTo b a i
+found_later : (b : List ℕ) (a i e : ℕ) (r : Option ℕ) → Words b → e ≡ min (length b) 2048 → a ≤ 32 * i → ClearTo b a i
     → FirstWord (take (e - i) (drop i b)) 0 (length (take (e - i) (drop i b))) r
     → Lowest b a (option_map (λ j. (i + j) * 32 + count_trailing_zeros 32 (get_or b (i + j) 0)) r)
 found_later b a i e None w q l c f = λ k m u. clear_words b a i e c (word_found b i e (omega arith) None f) k m (omega arith)
@@ -119,10 +119,10 @@ module _ (b : List ℕ) (a : ℕ) (l : a / 32 < min (length b) 2048) (fits : get
   rest_small : rest < 2 ^ 32
   rest_small = omega (arith, shr_le first (a % 32))
 
-  pub first_clear : rest ≡ 0 → ClearTo b a (a / 32 + 1)
+  first_clear : rest ≡ 0 → ClearTo b a (a / 32 + 1)
   first_clear z k p q = at_first k p q ∙ ap (λ x. eqb (bit_at x (k - a)) 1) z ∙ zero_bit (k - a)
 
-  pub found_at_first : 0 < rest → Lowest b a (Some (a + count_trailing_zeros 32 rest))
+  found_at_first : 0 < rest → Lowest b a (Some (a + count_trailing_zeros 32 rest))
   found_at_first pos =
       let t : ℕ = count_trailing_zeros 32 rest in
       let z = bit_at-trailing_zeros w32 rest pos rest_small in
@@ -136,3 +136,14 @@ module _ (b : List ℕ) (a : ℕ) (l : a / 32 < min (length b) 2048) (fits : get
         at_first (a + t) (omega arith) (omega (arith, small)) ∙ ap (λ x. eqb (bit_at rest x) 1) (omega arith) ∙ ap (λ x. eqb x 1) z.1,
         λ k p q. at_first k p (omega (arith, small)) ∙ ap (λ x. eqb x 1) (z.2 (k - a) (omega arith)),
       )
+
+-- ---- what `lowest_from` answers
+
+pub at_first_word : (b : List ℕ) (a : ℕ) → a / 32 < min (length b) 2048 → get_or b (a / 32) 0 < 2 ^ 32 → 0 < get_or b (a / 32) 0 / 2 ^ (a % 32)
+    → Some (a + count_trailing_zeros 32 (get_or b (a / 32) 0 / 2 ^ (a % 32))) ≡ lowest_bit b a
+at_first_word b a l fits pos = lowest_found b a _ (found_at_first b a l fits pos)
+
+pub at_later_word : (b : List ℕ) (a e : ℕ) (r : Option ℕ) → Words b → e ≡ min (length b) 2048 → a / 32 < e → get_or b (a / 32) 0 / 2 ^ (a % 32) ≡ 0
+    → let n = a / 32 + 1 in FirstWord (take (e - n) (drop n b)) 0 (length (take (e - n) (drop n b))) r
+    → option_map (λ j. (n + j) * 32 + count_trailing_zeros 32 (get_or b (n + j) 0)) r ≡ lowest_bit b a
+at_later_word b a e r w q l z f = lowest_found b a _ (found_later b a (a / 32 + 1) e r w q (omega arith) (first_clear b a (omega arith) (w (a / 32)) z) f)

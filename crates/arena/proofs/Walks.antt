@@ -64,7 +64,7 @@ module _ (m : Meaning) (bs : List Buffer) (ws : List ℕ) (e : ℕ) where
   stopped zero run a s = refl
   stopped (suc k) run a s = ap (runs_by (runs k) run a) s
 
-  pub runs_same : (k j run a : ℕ) → e - a ≤ k → e - a ≤ j → runs k run a ≡ runs j run a
+  runs_same : (k j run a : ℕ) → e - a ≤ k → e - a ≤ j → runs k run a ≡ runs j run a
   runs_same zero j run a p q = sym (stopped j run a (at_end a (omega arith)))
   runs_same (suc k) zero run a p q = stopped (suc k) run a (at_end a (omega arith))
   runs_same (suc k) (suc j) run a p q = go (step_at m bs ws e a) (onward a) (λ r n l. runs_same k j r n (omega arith) (omega arith))

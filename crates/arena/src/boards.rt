@@ -49,6 +49,7 @@ fn first_word(words: &[u32]) -> Option<usize>
 }
 
 // The lowest bit that is set, of those from a place on.
+#[tactic(auto, using(crate::proofs::Lowest::at_first_word))]
 pub fn lowest_from(board: &[u32], from: usize) -> Option<usize>
     ensures { result ≡ lowest_bit board.now from }
 {
