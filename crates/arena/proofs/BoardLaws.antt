@@ -1,27 +1,15 @@
 -- The laws of a board.
-use Rattle.std.proofs.Common.{◌≡◌, ℕ, zero, suc, ◌+◌, ◌/◌, ◌%◌, ◌^◌, ◌<◌, min, true, false, ◌≢◌, List, [], ◌∷◌, length, get_or, take, set, sum_by, sym, refl, ap, ◌∙◌, inl, inr, arith}
+use Rattle.std.proofs.Common.{◌≡◌, ℕ, ◌+◌, ◌/◌, ◌%◌, ◌^◌, ◌<◌, true, false, ◌≢◌, List, length, get_or, take, set, sum_by, sym, refl, ap, ◌∙◌, inl, inr, arith}
 use lib.Bits.{bit_or}
 use lib.Count.{ones}
-use Rattle.std.proofs.lemmas.List.{get_or-set_same, get_or-set_other, set_past, get_or_past, get_or-take, length-take, take_all}
+use Rattle.std.proofs.lemmas.List.{get_or-set_same, get_or-set_other, set_past, get_or_past, get_or-take, length-take}
+use Rattle.std.proofs.Math.Seq.{take-set-lt}
 use Rattle.std.proofs.lemmas.List.Sums.{sum_by-set}
 use Rattle.std.proofs.lemmas.Bool.{cases_eq, cases_lt, eqb-false}
+use Rattle.std.specs.Int.{bit_at}
 use Rattle.arena.specs.Boards.{bit_of, bit, with_bit, without_bit, reach, ones_of, LawsOf, BoardLaws}
-use Rattle.arena.proofs.Bits.{bit_n, set_same, set_other, clear_same, clear_other, ones_set}
+use Rattle.arena.proofs.Bits.{set_same, set_other, clear_same, clear_other, ones_set}
 use Rattle.arena.proofs.Lowest.{zero_bit, lowest_is}
-
-take_set_in : (n : ℕ) (b : List ℕ) (i w : ℕ) → i < n → take n (set b i w) ≡ set (take n b) i w
-take_set_in zero b i w h = absurd (omega arith)
-take_set_in (suc n) [] i w h = refl
-take_set_in (suc n) (x ∷ b) zero w h = refl
-take_set_in (suc n) (x ∷ b) (suc i) w h = ap {B = List ℕ} (λ z. x ∷ z) (take_set_in n b i w (omega arith))
-
--- the words that are counted
-pub take_few : (b : List ℕ) (i : ℕ) → i ≡ min (length b) 2048 → take i b ≡ take 2048 b
-take_few b i e =
-    elim (cases_lt (length b) 2048) [
-      | inl l ↦ take_all i b (omega arith) ∙ sym (take_all 2048 b (omega arith))
-      | inr l ↦ (let d : i ≡ 2048 = omega arith in ap (λ n. take n b) d)
-    ]
 
 module _ (b : List ℕ) where
   -- the board whose word of a has become w: a bit of that word, and of any other
@@ -57,10 +45,10 @@ module _ (b : List ℕ) where
   count_with a h off =
       let w = get_or b (a / 32) 0 in
       let v = bit_or w (2 ^ (a % 32)) in
-      let z : bit_n w (a % 32) ≡ 0 = omega (arith, eqb-false (bit_n w (a % 32)) 1 off) in
+      let z : bit_at w (a % 32) ≡ 0 = omega (arith, eqb-false (bit_at w (a % 32)) 1 off) in
       let s = sum_by-set ones (take 2048 b) (a / 32) v 0 (omega (arith, length-take 2048 b)) in
       let e : ones (get_or (take 2048 b) (a / 32) 0) ≡ ones w = ap ones (get_or-take 2048 b (a / 32) 0 (omega arith)) in
-      let t : ones_of (with_bit b a) ≡ sum_by ones (set (take 2048 b) (a / 32) v) = ap (sum_by ones) (take_set_in 2048 b (a / 32) v (omega arith)) in
+      let t : ones_of (with_bit b a) ≡ sum_by ones (set (take 2048 b) (a / 32) v) = ap (sum_by ones) (take-set-lt 2048 b (a / 32) v (omega arith)) in
       omega (arith, s, e, t, ones_set (a % 32) w z)
 
   pub laws_of : LawsOf b

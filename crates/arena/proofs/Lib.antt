@@ -1,6 +1,7 @@
 pub mod Bits
 pub mod Lowest
 pub mod BoardLaws
+pub mod Parts
+pub mod Firsts
 pub mod Searches
-pub mod Passing
 pub mod Walks

@@ -1,41 +1,36 @@
 -- Searches that go up one by one.
-use Rattle.std.proofs.Common.{◌≡◌, ℕ, suc, ◌+◌, ◌-◌, ◌<◌, ◌≤◌, List, Some, None, Option, sym, ap, ◌∙◌, arith}
-use Rattle.arena.specs.declared.segments.Owner.TheVariants.{Free, Pool}
+use Rattle.std.proofs.Common.{◌≡◌, ℕ, zero, suc, ◌+◌, ◌-◌, cond, List, map, find, is_none, Some, None, Option, refl, ap, ◌∙◌, inl, inr, arith}
 use Rattle.arena.specs.declared.segments.Segments.{Segments}
 use Rattle.format.specs.Meaning.{Meaning}
 use Rattle.arena.specs.declared.buffers.Buffer.{Buffer}
-use Rattle.arena.specs.Segments.{owner_of, free_or, free_among}
-use Rattle.arena.specs.Runs.{run_of, or_else, run_among}
+use Rattle.std.proofs.lemmas.Bool.{cases_eq}
+use Rattle.std.specs.List.{range_with_len}
+use Rattle.arena.specs.Segments.{Owner, owner_of, free_or, free_among}
+use Rattle.arena.specs.Runs.{run_of, run_among}
+use Rattle.arena.proofs.Firsts.{First}
 
--- what is left of n from i on has one more than from i + 1 on
-pub one_more : (n i : ℕ) → i < n → n - i ≡ suc (n - (i + 1))
-one_more n i h = omega arith
+free_first : (o : Owner) (s : ℕ) {rest here : Option ℕ} → rest ≡ here → cond (is_none o) (Some s) rest ≡ free_or o s here
+free_first None s e = refl
+free_first (Some p) s e = e
 
-module _ (g : Segments) (n s : ℕ) where
-  free_step : s < n → free_among (n - s) g s ≡ free_or (owner_of g s) s (free_among (n - (s + 1)) g (s + 1))
-  free_step h = rw (one_more n s h)
+-- the first free of k segments from s on
+pub free_found : (g : Segments) (k s : ℕ) → find (λ i. is_none (owner_of g i)) (map (λ i. i) (range_with_len s k)) ≡ free_among k g s
+free_found g zero s = refl
+free_found g (suc k) s = free_first (owner_of g s) s (free_found g k (s + 1))
 
-  pub free_here : s < n → owner_of g s ≡ Free → free_among (n - s) g s ≡ Some s
-  free_here h e = free_step h ∙ ap (λ o. free_or o s (free_among (n - (s + 1)) g (s + 1))) e
+-- the first run of k segments from s on
+module _ (m : Meaning) (g : Segments) (bs : List Buffer) (ws : List ℕ) (p size : ℕ) where
+  abbrev at : ℕ → Option Buffer
+  at = run_of m g bs ws p size
 
-  pub free_next : (p : ℕ) → s < n → owner_of g s ≡ Pool p → free_among (n - s) g s ≡ free_among (n - (s + 1)) g (s + 1)
-  free_next p h e = free_step h ∙ ap (λ o. free_or o s (free_among (n - (s + 1)) g (s + 1))) e
-
-  pub free_end : n ≤ s → free_among (n - s) g s ≡ None
-  free_end h = let z : n - s ≡ 0 = omega arith in rw z
-
-module _ (m : Meaning) (g : Segments) (bs : List Buffer) (ws : List ℕ) (p size n s : ℕ) where
-  abbrev later : Option Buffer
-  later = run_among (n - (s + 1)) m g bs ws p size (s + 1)
-
-  run_step : s < n → run_among (n - s) m g bs ws p size s ≡ or_else (run_of m g bs ws p size s) later
-  run_step h = rw (one_more n s h)
-
-  pub run_here : (r : Buffer) → s < n → Some r ≡ run_of m g bs ws p size s → run_among (n - s) m g bs ws p size s ≡ Some r
-  run_here r h e = run_step h ∙ ap (λ (o : Option Buffer). or_else o later) (sym e)
-
-  pub run_next : s < n → None ≡ run_of m g bs ws p size s → run_among (n - s) m g bs ws p size s ≡ later
-  run_next h e = run_step h ∙ ap (λ (o : Option Buffer). or_else o later) (sym e)
-
-  pub run_end : n ≤ s → run_among (n - s) m g bs ws p size s ≡ None
-  run_end h = let z : n - s ≡ 0 = omega arith in rw z
+  pub run_found : (k s n : ℕ) (r : Option Buffer) → n - s ≡ k → First at s n r → run_among k m g bs ws p size s ≡ r
+  run_found zero s n None e f = refl
+  run_found zero s n (Some r) e f = absurd (omega (arith, f.1, f.2))
+  run_found (suc k) s n None e f = rw (f s (omega arith) (omega arith)) (run_found k (s + 1) n None (omega arith) (λ j a b. f j (omega arith) b))
+  run_found (suc k) s n (Some r) e f =
+      elim (cases_eq s f.0) [
+        | inl q ↦ (let h : at s ≡ Some r = ap at q ∙ f.3 in rw h)
+        | inr ne ↦ (
+            let h : at s ≡ None = f.4 s (omega arith) (omega (arith, f.1)) in
+            rw h (run_found k (s + 1) n (Some r) (omega arith) (f.0, omega (arith, f.1), f.2, f.3, λ j a b. f.4 j (omega arith) b)))
+      ]

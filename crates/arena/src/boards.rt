@@ -1,5 +1,5 @@
-// A board has a bit for each word of the arena, 32 to a word.
-ghost use Rattle.std.specs.Prelude.{◌≡◌, ◌≤◌, length, replicate};
+// A board has a bit for each word of the arena, 32 to a word. It is lent words, so these are functions.
+ghost use Rattle.std.specs.Prelude.{◌≡◌, length, replicate};
 ghost use Rattle.arena.specs.Boards.{bit, with_bit, without_bit, lowest_bit, FirstWord, ones_of, BoardLaws};
 
 // The words of the longest board: 65,536 bits.
@@ -9,17 +9,16 @@ const LONGEST: usize = 2048;
 pub fn is_set(board: &[u32], a: usize) -> bool
     ensures { result ≡ bit board.now a }
 {
-    if a / 32 < board.len() {
-        (board[a / 32] >> (a % 32) as u32) & 1 == 1
-    } else {
-        false
-    }
+    board
+        .get(a / 32)
+        .is_some_and(|word| (*word >> (a % 32) as u32) & 1 == 1)
 }
 
 // Sets the bit at a.
 pub fn set_bit(board: &mut [u32], a: usize)
     ensures { board.new ≡ with_bit board.old a }
 {
+    // Not by `get_mut`: a proof does not know the board once that borrow is over.
     if a / 32 < board.len() {
         board[a / 32] |= 1 << (a % 32) as u32;
     }
@@ -29,6 +28,7 @@ pub fn set_bit(board: &mut [u32], a: usize)
 pub fn clear_bit(board: &mut [u32], a: usize)
     ensures { board.new ≡ without_bit board.old a }
 {
+    // As in `set_bit`.
     if a / 32 < board.len() {
         board[a / 32] &= !(1 << (a % 32) as u32);
     }
@@ -41,20 +41,15 @@ pub fn clear_all(board: &mut [u32])
     board.fill(0);
 }
 
-// The first word from a place up to an end that is not 0.
-fn first_word(board: &[u32], from: usize, end: usize) -> Option<usize>
-    requires { end ≤ length board.now }
-    ensures { FirstWord board.now from end result }
+// The first of the words that is not 0.
+fn first_word(words: &[u32]) -> Option<usize>
+    ensures { FirstWord words.now 0 (length words.now) result }
 {
-    for i in from..end {
-        if board[i] != 0 {
-            return Some(i);
-        }
-    }
-    None
+    words.iter().position(|word| *word != 0)
 }
 
 // The lowest bit that is set, of those from a place on.
+#[tactic(auto, using(crate::proofs::Lowest::at_first_word))]
 pub fn lowest_from(board: &[u32], from: usize) -> Option<usize>
     ensures { result ≡ lowest_bit board.now from }
 {
@@ -66,20 +61,22 @@ pub fn lowest_from(board: &[u32], from: usize) -> Option<usize>
     if rest != 0 {
         return Some(from + rest.trailing_zeros() as usize);
     }
-    match first_word(board, from / 32 + 1, end) {
-        Some(i) => Some(i * 32 + board[i].trailing_zeros() as usize),
-        None => None,
-    }
+    let next = from / 32 + 1;
+    first_word(&board[next..end]).map(|i| {
+        let word = next + i;
+        word * 32 + board[word].trailing_zeros() as usize
+    })
 }
 
 // How many bits are set.
+#[tactic(auto, using(crate::proofs::BoardLaws::board_laws))]
 pub fn count_ones(board: &[u32]) -> u32
     ensures value { result ≡ ones_of board.now }
     ensures laws { BoardLaws }
 {
-    let mut sum = 0;
-    for i in 0..board.len().min(LONGEST) {
-        sum += board[i].count_ones();
-    }
-    sum
+    board
+        .iter()
+        .take(LONGEST)
+        .map(|word| word.count_ones())
+        .sum()
 }

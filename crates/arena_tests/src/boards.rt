@@ -19,30 +19,30 @@ const ALONE: [(usize, [u32; 3], [u32; 3]); 7] = [
 
 #[test]
 fn single_bits(rt: HostRuntime) {
-    for (a, set, clear) in ALONE.iter() {
+    for (a, set, clear) in ALONE {
         let mut board = [0; 3];
-        set_bit(&mut board, *a);
-        assert_eq!(rt; board, *set, "bit {a} set");
-        set_bit(&mut board, *a);
-        assert_eq!(rt; board, *set, "bit {a} set again");
+        set_bit(&mut board, a);
+        assert_eq!(rt; board, set, "bit {a} set");
+        set_bit(&mut board, a);
+        assert_eq!(rt; board, set, "bit {a} set again");
         let mut board = [FULL; 3];
-        clear_bit(&mut board, *a);
-        assert_eq!(rt; board, *clear, "bit {a} cleared");
-        clear_bit(&mut board, *a);
-        assert_eq!(rt; board, *clear, "bit {a} cleared again");
+        clear_bit(&mut board, a);
+        assert_eq!(rt; board, clear, "bit {a} cleared");
+        clear_bit(&mut board, a);
+        assert_eq!(rt; board, clear, "bit {a} cleared again");
         for k in 0..96 {
-            assert_eq!(rt; is_set(set, k), k == *a, "bit {k}, {a} set");
-            assert_eq!(rt; is_set(clear, k), k != *a, "bit {k}, {a} clear");
+            assert_eq!(rt; is_set(&set, k), k == a, "bit {k}, {a} set");
+            assert_eq!(rt; is_set(&clear, k), k != a, "bit {k}, {a} clear");
         }
-        assert_eq!(rt; is_set(clear, 96), false);
-        assert_eq!(rt; is_set(clear, usize::MAX), false);
+        assert!(rt; !is_set(&clear, 96));
+        assert!(rt; !is_set(&clear, usize::MAX));
     }
 }
 
 // Each row is where to look from, and the lowest set bit from there on.
 fn check_lowest(rt: &impl Abort, board: &[u32], rows: &[(usize, Option<usize>)]) {
-    for (from, lowest) in rows {
-        assert_eq!(rt; lowest_from(board, *from), *lowest, "from {from}");
+    for &(from, lowest) in rows {
+        assert_eq!(rt; lowest_from(board, from), lowest, "from {from}");
     }
 }
 

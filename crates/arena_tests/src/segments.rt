@@ -1,21 +1,13 @@
 // Segments of 256 words, numbered from 0, of which segment 0 is never used.
 use crate::things::OLD;
-use arena::{Owner, Segments, free};
+use arena::Segments;
 use std::process::Abort;
-
-// The pool whose a segment is.
-fn pool_of(segments: &Segments, segment: u8) -> Option<u8> {
-    match segments.owner(segment) {
-        Owner::Free => None,
-        Owner::Pool(pool) => Some(pool),
-    }
-}
 
 #[test]
 fn owners(rt: HostRuntime) {
     let mut segments = Segments::new();
     for segment in 0..=255 {
-        assert_eq!(rt; pool_of(&segments, segment), None);
+        assert_eq!(rt; segments.owner(segment), None);
     }
     segments.give(3, 7);
     segments.give(4, 0);
@@ -33,15 +25,15 @@ fn owners(rt: HostRuntime) {
         (254, None),
         (255, Some(255)),
     ];
-    for (segment, pool) in rows.iter() {
-        assert_eq!(rt; pool_of(&segments, *segment), *pool, "segment {segment}");
+    for (segment, pool) in rows {
+        assert_eq!(rt; segments.owner(segment), pool, "segment {segment}");
     }
 }
 
 // Each row is how many words the arena has, and its lowest free segment.
 fn check_lowest(rt: &impl Abort, segments: &Segments, rows: &[(usize, Option<u8>)]) {
-    for (words, lowest) in rows {
-        assert_eq!(rt; segments.lowest_free(*words), *lowest, "{words} words");
+    for &(words, lowest) in rows {
+        assert_eq!(rt; segments.lowest_free(words), lowest, "{words} words");
     }
 }
 
@@ -124,10 +116,10 @@ fn lowest_free_segments_from_a_place_on(rt: HostRuntime) {
         (256, usize::MAX, None),
         (usize::MAX, usize::MAX, None),
     ];
-    for (from, words, lowest) in rows.iter() {
+    for (from, words, lowest) in rows {
         assert_eq!(rt;
-            segments.lowest_free_from(*from, *words),
-            *lowest,
+            segments.lowest_free_from(from, words),
+            lowest,
             "from {from} of {words} words"
         );
     }
@@ -148,34 +140,30 @@ fn freeing(rt: HostRuntime) {
         (512, 3, None),
         (0, 1, None),
     ];
-    for (k, (len, freed, cleared)) in rows.iter().enumerate() {
-        let len: usize = *len;
+    for (k, (len, freed, cleared)) in rows.into_iter().enumerate() {
+        let len: usize = len;
         assert!(rt; len <= 1_024);
         let mut segments = Segments::new();
         for segment in 1..4 {
             segments.give(segment, 9);
         }
         let mut words = [OLD; 1024];
-        let own = &mut words[0..len];
-        free(&mut segments, own, *freed);
+        let own = &mut words[..len];
+        segments.free(own, freed);
         let mut expected = [OLD; 1024];
-        let after = &mut expected[0..len];
-        if let Some((from, end)) = *cleared {
+        let after = &mut expected[..len];
+        if let Some((from, end)) = cleared {
             assert!(rt; from <= end && end <= len);
             after[from..end].fill(0);
         }
         assert_eq!(rt; &*own, &*after, "row {k}");
         for segment in 1..4 {
-            let pool = if segment == *freed && cleared.is_some() {
+            let pool = if segment == freed && cleared.is_some() {
                 None
             } else {
                 Some(9)
             };
-            assert_eq!(rt;
-                pool_of(&segments, segment),
-                pool,
-                "row {k}, segment {segment}"
-            );
+            assert_eq!(rt; segments.owner(segment), pool, "row {k}, segment {segment}");
         }
     }
 }

@@ -1,5 +1,6 @@
 // Things laid one behind the other, in any format.
 use format::{Format, Shape, forward, make, pad};
+use formats::{Counted, Tagged};
 use std::process::Abort;
 use std::test::Fail;
 
@@ -16,62 +17,79 @@ pub enum Thing {
     Nothing(usize),
 }
 
-fn size_of(thing: Thing) -> usize {
-    match thing {
-        Thing::Object(size)
-        | Thing::Forwarded(size)
-        | Thing::Padding(size)
-        | Thing::Nothing(size) => size,
-    }
-}
-
-// Makes an object of numbers over the words.
-fn make_object<F: Format>(rt: &impl Abort, format: &F, own: &mut [u32]) -> Result<(), Fail> {
-    let size = own.len();
-    assert!(rt; 1 <= size && size <= 128);
-    make(
-        format,
-        own,
-        Shape {
-            layout: 0,
-            n: (size - 1) as u8,
-        },
-    )?;
-    Ok(())
-}
-
-fn write<F: Format>(
-    rt: &impl Abort,
-    format: &F,
-    own: &mut [u32],
-    thing: Thing,
-) -> Result<(), Fail> {
-    match thing {
-        Thing::Object(_) => make_object(rt, format, own)?,
-        Thing::Forwarded(_) => {
-            make_object(rt, format, own)?;
-            forward(format, own, 256)?;
+impl Thing {
+    fn size(self) -> usize {
+        match self {
+            Thing::Object(size)
+            | Thing::Forwarded(size)
+            | Thing::Padding(size)
+            | Thing::Nothing(size) => size,
         }
-        Thing::Padding(_) => pad(format, own)?,
-        Thing::Nothing(_) => own.fill(OLD),
     }
-    Ok(())
 }
 
-// Lays things one behind the other, from a place on.
-pub fn lay<F: Format>(
-    rt: &impl Abort,
-    format: &F,
-    words: &mut [u32],
-    from: usize,
-    things: &[Thing],
-) -> Result<(), Fail> {
-    let mut place = from;
-    for thing in things {
-        let size = size_of(*thing);
-        assert!(rt; place <= words.len() && size <= words.len() - place);
-        write(rt, format, &mut words[place..place + size], *thing)?;
-        place += size;
+// A format under test, by the name that messages give it, and what an assertion asks for.
+#[derive_where(Clone, Copy)]
+pub struct Bench<'a, R, F> {
+    pub rt: &'a R,
+    pub name: &'a str,
+    pub format: &'a F,
+}
+
+pub fn counted<R: Abort>(rt: &R) -> Bench<'_, R, Counted> {
+    Bench {
+        rt,
+        name: "counted",
+        format: &Counted,
     }
-    Ok(())
+}
+
+pub fn tagged<R: Abort>(rt: &R) -> Bench<'_, R, Tagged> {
+    Bench {
+        rt,
+        name: "tagged",
+        format: &Tagged,
+    }
+}
+
+impl<R: Abort, F: Format> Bench<'_, R, F> {
+    // Makes an object of numbers over the words.
+    fn make_object(&self, own: &mut [u32]) -> Result<(), Fail> {
+        let size = own.len();
+        assert!(self.rt; 1 <= size && size <= 128);
+        make(
+            self.format,
+            own,
+            Shape {
+                layout: 0,
+                n: (size - 1) as u8,
+            },
+        )?;
+        Ok(())
+    }
+
+    fn write(&self, own: &mut [u32], thing: Thing) -> Result<(), Fail> {
+        match thing {
+            Thing::Object(_) => self.make_object(own)?,
+            Thing::Forwarded(_) => {
+                self.make_object(own)?;
+                forward(self.format, own, 256)?;
+            }
+            Thing::Padding(_) => pad(self.format, own)?,
+            Thing::Nothing(_) => own.fill(OLD),
+        }
+        Ok(())
+    }
+
+    // Lays things one behind the other, from a place on.
+    pub fn lay(&self, words: &mut [u32], from: usize, things: &[Thing]) -> Result<(), Fail> {
+        let mut place = from;
+        for &thing in things {
+            let size = thing.size();
+            assert!(self.rt; place <= words.len() && size <= words.len() - place);
+            self.write(&mut words[place..place + size], thing)?;
+            place += size;
+        }
+        Ok(())
+    }
 }

@@ -5,7 +5,9 @@ use Rattle.std.proofs.lemmas.List.{get_or-set_other}
 use Rattle.std.proofs.lemmas.Bool.{cond-true, cond-false, cond_both, eqb-true, ne_eqb, eq-eqb, ltb-false}
 use Rattle.location.specs.declared.History.{History}
 use Rattle.location.specs.declared.Dependency.{Dependency}
-use Rattle.location.proofs.Zones.{bit, or_bit, own_bit, shared}
+use Rattle.std.proofs.lemmas.Nat.Bits.{bit_at_or, bit_at-pow_same}
+use Rattle.std.specs.Int.{bit_at}
+use Rattle.location.proofs.Zones.{shared}
 use Rattle.location.specs.Locations.{zone_of, has_zone, zone_bit, joined_to, aged, can_age, age_after, entered, is_stale, Event, ages, enters, Moment, after, run, fresh, NeverMisses}
 
 -- ---- the recent sets
@@ -21,10 +23,10 @@ joined_at zones sets (suc (suc (suc (suc k)))) h = absurd (omega arith)
 
 -- zone z was entered in d, and the history has it as aged since d's epoch
 record Told (h : History) (d : Dependency) (z : ℕ) : Type 0 where
-  within : bit z d.zones ≡ 1
+  within : bit_at d.zones z ≡ 1
   past : d.epoch < h.epoch
-  near : h.epoch - d.epoch ≤ 4 → bit z (get_or h.recent (d.epoch % 4) 0) ≡ 1
-  far : bit z h.ever ≡ 1
+  near : h.epoch - d.epoch ≤ 4 → bit_at (get_or h.recent (d.epoch % 4) 0) z ≡ 1
+  far : bit_at h.ever z ≡ 1
 
 module _ (h : History) (d : Dependency) (z : ℕ) where
   told_stale : Told h d z → is_stale h d ≡ true
@@ -36,12 +38,12 @@ module _ (h : History) (d : Dependency) (z : ℕ) where
       (λ e. shared z d.zones (get_or h.recent (d.epoch % 4) 0) t.within (t.near (ltb-false 4 (h.epoch - d.epoch) e)))
 
   -- an ageing tells a zone that was entered
-  age_tells : (zones : ℕ) → d.epoch ≤ h.epoch → bit z d.zones ≡ 1 → bit z zones ≡ 1 → Told (aged h zones) d z
+  age_tells : (zones : ℕ) → d.epoch ≤ h.epoch → bit_at d.zones z ≡ 1 → bit_at zones z ≡ 1 → Told (aged h zones) d z
   age_tells zones s p q = record {
     within = p;
     past = omega arith;
-    near = λ _. rw (joined_at zones (set h.recent (h.epoch % 4) 0) (d.epoch % 4) (omega arith)) (omega (arith, or_bit z (get_or (set h.recent (h.epoch % 4) 0) (d.epoch % 4) 0) zones));
-    far = omega (arith, or_bit z h.ever zones);
+    near = λ _. rw (joined_at zones (set h.recent (h.epoch % 4) 0) (d.epoch % 4) (omega arith)) (omega (arith, bit_at_or (get_or (set h.recent (h.epoch % 4) 0) (d.epoch % 4) 0) zones z));
+    far = omega (arith, bit_at_or h.ever zones z);
   }
 
   told_aged : (zones : ℕ) → Told h d z → Told (aged h zones) d z
@@ -50,17 +52,17 @@ module _ (h : History) (d : Dependency) (z : ℕ) where
     past = omega (arith, t.past);
     near = λ n.
         (let a : (d.epoch % 4) ≢ (h.epoch % 4) = omega (arith, t.past, n) in
-        let b : bit z (get_or h.recent (d.epoch % 4) 0) ≡ 1 = t.near (omega (arith, t.past, n)) in
+        let b : bit_at (get_or h.recent (d.epoch % 4) 0) z ≡ 1 = t.near (omega (arith, t.past, n)) in
         rw (joined_at zones (set h.recent (h.epoch % 4) 0) (d.epoch % 4) (omega arith), get_or-set_other h.recent (h.epoch % 4) (d.epoch % 4) 0 0 a)
-        (omega (arith, b, or_bit z (get_or h.recent (d.epoch % 4) 0) zones)));
-    far = omega (arith, t.far, or_bit z h.ever zones);
+        (omega (arith, b, bit_at_or (get_or h.recent (d.epoch % 4) 0) zones z)));
+    far = omega (arith, t.far, bit_at_or h.ever zones z);
   }
 
   told_age : (zones : ℕ) → Told h d z → Told (age_after h zones) d z
   told_age zones t = cond_both (can_age h) (aged h zones) h (λ x. Told x d z) (λ _. told_aged zones t) (λ _. t)
 
   told_entered : (a : ℕ) → Told h d z → Told h (entered d a) z
-  told_entered a t = record { within = omega (arith, t.within, or_bit z d.zones (zone_bit a)); past = t.past; near = t.near; far = t.far }
+  told_entered a t = record { within = omega (arith, t.within, bit_at_or d.zones (zone_bit a) z); past = t.past; near = t.near; far = t.far }
 
 told_run : (t : Moment) (z : ℕ) (es : List Event) → Told t.history t.dependency z → Told (run t es).history (run t es).dependency z
 told_run t z [] k = k
@@ -70,7 +72,7 @@ told_run t z (enters a ∷ es) k = told_run (after t (enters a)) z es (told_ente
 -- ---- what was entered stays entered, and a dependency is never ahead of the arena
 
 record Entered (t : Moment) (z : ℕ) : Type 0 where
-  within : bit z t.dependency.zones ≡ 1
+  within : bit_at t.dependency.zones z ≡ 1
   before : t.dependency.epoch ≤ t.history.epoch
 
 ageing_grows : (h : History) (zones : ℕ) → h.epoch ≤ (age_after h zones).epoch
@@ -86,11 +88,11 @@ run_entered t z [] k = k
 run_entered t z (ages zones ∷ es) k =
     run_entered (after t (ages zones)) z es (record { within = k.within; before = omega (arith, k.before, ageing_grows t.history zones) })
 run_entered t z (enters a ∷ es) k =
-    run_entered (after t (enters a)) z es (record { within = omega (arith, k.within, or_bit z t.dependency.zones (zone_bit a)); before = k.before })
+    run_entered (after t (enters a)) z es (record { within = omega (arith, k.within, bit_at_or t.dependency.zones (zone_bit a) z); before = k.before })
 
 enter_enters : (t : Moment) (a : ℕ) → t.dependency.epoch ≤ t.history.epoch → Entered (after t (enters a)) (zone_of a)
 enter_enters t a h = record {
-  within = omega (arith, own_bit (zone_of a), or_bit (zone_of a) t.dependency.zones (zone_bit a));
+  within = omega (arith, bit_at-pow_same (zone_of a), bit_at_or t.dependency.zones (zone_bit a) (zone_of a));
   before = h;
 }
 

@@ -14,10 +14,10 @@ pub const MOST_COLLECTIONS: u32 = 1_000_000;
 
 // The zones that were aged, as sets of 32 bits. Of the recent sets, the one at an epoch's remainder
 // by 4 has every zone that was aged since that epoch; `ever` has every zone that was ever aged.
-#[derive(Clone, Copy, Debug)]
+#[derive(Clone, Copy, PartialEq, Eq, Default, Debug)]
 pub struct History {
     epoch: u32,
-    recent: [u32; 4],
+    recent: [u32; DEPTH],
     ever: u32,
 }
 
@@ -47,11 +47,7 @@ impl History {
     pub fn new() -> History
         ensures { result ≡ empty_history }
     {
-        History {
-            epoch: 0,
-            recent: [0; 4],
-            ever: 0,
-        }
+        History::default()
     }
 
     // How often the arena has been aged.
@@ -61,11 +57,11 @@ impl History {
         self.epoch
     }
 
-    // The zones that were aged since an epoch, or at any time if that is more than four ageings ago.
+    // The zones that were aged since an epoch, or at any time if that is more than DEPTH ageings ago.
     fn aged_since(&self, epoch: u32) -> u32
         ensures { result ≡ aged_since self.now epoch }
     {
-        if self.epoch > epoch && self.epoch - epoch > 4 {
+        if self.epoch.saturating_sub(epoch) as usize > DEPTH {
             self.ever
         } else {
             self.recent[epoch as usize % DEPTH]
@@ -80,10 +76,8 @@ impl History {
         if self.epoch >= MOST_COLLECTIONS {
             return Err(Refusal::CollectionsSpent);
         }
-        let mut recent = self.recent;
-        recent[self.epoch as usize % DEPTH] = 0;
-        let [a, b, c, d] = recent;
-        self.recent = [a | zones, b | zones, c | zones, d | zones];
+        self.recent[self.epoch as usize % DEPTH] = 0;
+        self.recent = self.recent.map(|set| set | zones);
         self.ever |= zones;
         self.epoch += 1;
         Ok(())
@@ -109,6 +103,7 @@ impl Dependency {
     }
 
     // Whether something that was entered may have moved.
+    #[tactic(auto, using(crate::proofs::Runs::never_misses))]
     pub fn stale(&self, history: &History) -> bool
         ensures answer { result ≡ is_stale history.now self.now }
         ensures laws { NeverMisses }
@@ -151,11 +146,11 @@ mod tests {
         age_by(&mut history, ZONE, 1)?;
         let mut dependency = Dependency::reset(&history);
         dependency.enter(ADDRESS);
-        assert_eq!(rt; dependency.stale(&history), false);
+        assert!(rt; !dependency.stale(&history));
         age_by(&mut history, 0, 4)?;
-        assert_eq!(rt; dependency.stale(&history), false);
+        assert!(rt; !dependency.stale(&history));
         age_by(&mut history, 0, 1)?;
-        assert_eq!(rt; dependency.stale(&history), true);
+        assert!(rt; dependency.stale(&history));
         Ok(())
     }
 
@@ -166,13 +161,13 @@ mod tests {
             let mut dependency = Dependency::reset(&history);
             dependency.enter(ADDRESS);
             age_by(&mut history, 0xffff_fffd, 1)?;
-            assert_eq!(rt; dependency.stale(&history), false);
+            assert!(rt; !dependency.stale(&history));
             age_by(&mut history, ZONE, 1)?;
             age_by(&mut history, 0, later)?;
-            assert_eq!(rt; dependency.stale(&history), true);
+            assert!(rt; dependency.stale(&history));
             let mut anew = Dependency::reset(&history);
             anew.enter(ADDRESS);
-            assert_eq!(rt; anew.stale(&history), false);
+            assert!(rt; !anew.stale(&history));
         }
         Ok(())
     }
