@@ -18,8 +18,8 @@ use Rattle.arena.proofs.BoardLaws.{laws_of}
 use Rattle.trace.specs.declared.state.Class.{Class}
 use Rattle.trace.specs.declared.state.Class.TheVariants.{Amc, Ams, Lo}
 use Rattle.trace.specs.declared.state.Trace.{Trace}
-use Rattle.trace.specs.declared.state.Fate.{Fate}
-use Rattle.trace.specs.declared.state.Fate.TheVariants.{Stay, Copy, Fresh}
+use Rattle.trace.specs.declared.deciding.Fate.{Fate}
+use Rattle.trace.specs.declared.deciding.Fate.TheVariants.{Stay, Copy, Fresh}
 use Rattle.trace.specs.Traces.{limit_of, head_at, class_of, condemns, rest, by_free, by_room, by_class, by_owner, by_head, sought, taken_words, copied_words, copied_state, taken_state, Heap, heap, acted, answered, fate_of, fixed, fix_answer}
 use Rattle.trace.specs.Collections.{is_amc, is_lo, moves}
 use Rattle.trace.proofs.Cells.{Apart, slots_of, owner, target, marked, stays, rd, owner0, leafy, Start, Std, thing0, size0, layout0, slots0, Obj, Fits, AllFit, Moved, Cell, same, copy, Names, null, names, stay, move, Settled, empty, settled, Body, Held, here, away, still, Null, Room, ahead, Owned, Inv, Grows, Keeps, Sound}

@@ -2,6 +2,8 @@ mod Fates
 mod Turns
 mod Walks
 mod Pointing
+mod Tables
+mod Loops
 mod Chain
 mod Performing
 mod Cells

@@ -9,7 +9,7 @@ use Rattle.arena.specs.declared.buffers.Buffer.{Buffer}
 use Rattle.arena.specs.declared.segments.Owner.{Owner}
 use Rattle.arena.specs.declared.segments.Owner.TheVariants.{Free, Pool}
 use Rattle.arena.specs.declared.segments.Segments.{Segments}
-use Rattle.arena.specs.Boards.{with_bit, ones_of}
+use Rattle.arena.specs.Boards.{ones_of}
 use Rattle.arena.specs.Segments.{owner_of, segments_in}
 use Rattle.arena.specs.Buffers.{no_buffer, padded_part}
 use Rattle.location.specs.Locations.{zone_bit}
@@ -17,7 +17,7 @@ use Rattle.trace.specs.declared.state.Class.{Class}
 use Rattle.trace.specs.declared.state.Class.TheVariants.{Amc, Ams, Lo}
 use Rattle.trace.specs.declared.state.Plan.{Plan}
 use Rattle.trace.specs.declared.state.Trace.{Trace}
-use Rattle.trace.specs.Traces.{limit_of, condemns, rest, target_of, lowered, Heap, heap, fixed, fix_answer, scanned, rounded, stood, end_of, walked, swept_words, swept_segments}
+use Rattle.trace.specs.Traces.{limit_of, condemns, rest, target_of, Heap, heap, marked, greyed, fixed, fix_answer, scanned, rounded, stood, end_of, walked, swept_words, swept_segments}
 
 -- ---- closing all buffers
 
@@ -41,6 +41,14 @@ in_set pools (Pool p) = nat_lt p 8 && pools / 2 ^ p % 2 == 1
 -- A segment is condemned if it belongs to a pool of the set.
 unfoldable pub condemned_by : Segments → ℕ → List Bool
 condemned_by g pools = map (λ s. in_set pools (owner_of g s)) (range_with_len 0 256)
+
+-- the class of a pool, and of the pool whose a segment is
+abbrev pub class_in : List Class → ℕ → Option Class
+class_in classes p = cond (nat_lt p 8) (Some (slice_index_or classes p Amc)) None
+
+abbrev pub class_of_owner : List Class → Owner → Option Class
+class_of_owner classes Free = None
+class_of_owner classes (Pool p) = class_in classes p
 
 abbrev pub is_amc : Class → Bool
 is_amc Amc = true
@@ -89,9 +97,13 @@ pointed_in m ws ms base limit w = pointed m ws ms limit w (limit - base) base
 abbrev pub nails : Plan → ℕ → ℕ → Bool
 nails y len w = not (nat_lt w 256 || nat_lt 65535 w) && (nat_le (limit_of w) len && condemns y w)
 
+-- the base of the object into which w points, if that is in a condemned segment
+abbrev pub nail_of : Meaning → Plan → Heap → ℕ → Option ℕ
+nail_of m y v w = cond (nails y (length v.words) w) (pointed_in m v.words v.marks (w / 256 * 256) (w / 256 * 256 + 256) w) None
+
 abbrev pub nailed_at : Heap → Option ℕ → Heap
 nailed_at v None = v
-nailed_at v (Some a) = heap (lowered v.state a) v.words (with_bit v.marks a) (with_bit v.greys a)
+nailed_at v (Some a) = greyed (marked v a) a
 
 -- the object into which w points is marked and grey
 abbrev pub nailed : Meaning → Plan → Heap → ℕ → Heap

@@ -20,8 +20,8 @@ use Rattle.trace.specs.declared.state.Plan.{Plan}
 use Rattle.trace.specs.declared.state.Trace.{Trace}
 use Rattle.trace.specs.declared.sweeping.Stand.{Stand}
 use Rattle.trace.specs.declared.sweeping.Stand.TheVariants.{Kept, Loose}
-use Rattle.trace.specs.declared.state.Fate.{Fate}
-use Rattle.trace.specs.declared.state.Fate.TheVariants.{Stay, Gone, Mark, Grey, Copy, Fresh}
+use Rattle.trace.specs.declared.deciding.Fate.{Fate}
+use Rattle.trace.specs.declared.deciding.Fate.TheVariants.{Stay, Gone, Mark, Grey, Copy, Fresh}
 
 -- the end of the segment of a
 abbrev pub limit_of : ℕ → ℕ
@@ -139,11 +139,18 @@ copied m v p a n to = heap (copied_state v.state p n to) (copied_words m v.words
 abbrev pub taken : Meaning → Heap → ℕ → ℕ → Heap
 taken m v p s = heap (taken_state v.state p s) (taken_words m v.state v.words p) v.marks v.greys
 
+-- the object at a is marked; it is grey
+abbrev pub marked : Heap → ℕ → Heap
+marked v a = heap v.state v.words (with_bit v.marks a) v.greys
+
+abbrev pub greyed : Heap → ℕ → Heap
+greyed v a = heap (lowered v.state a) v.words v.marks (with_bit v.greys a)
+
 abbrev pub acted : Meaning → Heap → ℕ → Fate → Heap
 acted m v a Stay = v
 acted m v a (Gone to) = v
-acted m v a Mark = heap v.state v.words (with_bit v.marks a) v.greys
-acted m v a Grey = heap (lowered v.state a) v.words (with_bit v.marks a) (with_bit v.greys a)
+acted m v a Mark = marked v a
+acted m v a Grey = greyed (marked v a) a
 acted m v a (Copy p n to) = copied m v p a n to
 acted m v a (Fresh p n s) = copied m (taken m v p s) p a n (s * 256)
 

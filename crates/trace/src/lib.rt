@@ -5,6 +5,7 @@ mod collecting;
 mod collection;
 mod deciding;
 mod fixing;
+mod heap;
 mod parts;
 mod rooting;
 mod scanning;
@@ -12,8 +13,6 @@ mod state;
 mod sweeping;
 mod tracing;
 
-pub use collection::collect;
-pub use fixing::fix;
-pub use scanning::{rounds, scan};
-pub use state::{Arena, Class, Plan, Trace};
+pub use heap::{Heap, Memory};
+pub use state::{Arena, Class, Plan, Trace, Tracer};
 pub use sweeping::sweep;

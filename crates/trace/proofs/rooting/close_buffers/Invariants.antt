@@ -2,5 +2,5 @@ use Rattle.std.proofs.Common.{◌≡◌}
 use Rattle.trace.specs.Collections.{buffers_closed}
 use Rattle.trace.proofs.rooting.close_buffers.Given as goal
 
-abbrev pub invariant-loop-i : goal.invariant-loop-i
-invariant-loop-i g l = l.words ≡ buffers_closed (g.F.Format.meaning l.format) l.buffers l.initial.words l.i
+abbrev pub invariant-loop-buffer : goal.invariant-loop-buffer
+invariant-loop-buffer g l = l.words ≡ buffers_closed (g.F.Format.meaning l.format) l.buffers l.initial.words l.buffer-index
