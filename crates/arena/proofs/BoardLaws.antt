@@ -75,3 +75,5 @@ module _ (b : List ℕ) where
 
 pub board_laws : BoardLaws
 board_laws b w = laws_of b
+
+pub ruleset counting = (take_few, board_laws)

@@ -2,5 +2,5 @@ pub mod Bits
 pub mod Lowest
 pub mod BoardLaws
 pub mod Searches
-pub mod Passing
 pub mod Walks
+pub mod Firsts

@@ -4,7 +4,8 @@ use native.Mathlib.Nat.{div-eq_of_lt}
 use lib.Count.{count_trailing_zeros, trailing_le}
 use Rattle.std.proofs.lemmas.Nat.{shr-shr, shr_le, pow_pos}
 use Rattle.std.proofs.lemmas.Bool.{cases_eq, cases_lt, cases_Bool, both_ways}
-use Rattle.arena.specs.Boards.{bit_of, bit, reach, lowest_in, lowest_bit, Lowest}
+use Rattle.std.specs.Option.{option_map}
+use Rattle.arena.specs.Boards.{bit_of, bit, reach, lowest_in, lowest_bit, Lowest, FirstWord, Words}
 use Rattle.arena.proofs.Bits.{bit_n}
 
 -- ---- trailing zeros
@@ -74,7 +75,7 @@ lowest_is b a =
     ]
 
 -- two answers that are both lowest are the same
-pub lowest_one : (b : List ℕ) (a : ℕ) (r s : Option ℕ) → Lowest b a r → Lowest b a s → r ≡ s
+lowest_one : (b : List ℕ) (a : ℕ) (r s : Option ℕ) → Lowest b a r → Lowest b a s → r ≡ s
 lowest_one b a None None p q = refl
 lowest_one b a None (Some s) p q = absurd (both_ways (bit b s) (p s q.0 q.1) q.2)
 lowest_one b a (Some r) None p q = absurd (both_ways (bit b r) (q r p.0 p.1) p.2)
@@ -87,6 +88,9 @@ lowest_one b a (Some r) (Some s) p q =
       ]
     ]
 
+pub lowest_found : (b : List ℕ) (a : ℕ) (r : Option ℕ) → Lowest b a r → r ≡ lowest_bit b a
+lowest_found b a r h = lowest_one b a r (lowest_bit b a) h (lowest_is b a)
+
 -- ---- by words
 
 -- no bit from a on is set in the words below i
@@ -98,7 +102,7 @@ in_word : (b : List ℕ) (i k : ℕ) → k / 32 ≡ i → bit b k ≡ bit_of (ge
 in_word b i k e = ap (λ j. bit_of (get_or b j 0) (k % 32)) e
 
 -- words that are 0 have no bit
-pub clear_words : (b : List ℕ) (a i j : ℕ) → ClearTo b a i → ((k : ℕ) → i ≤ k → k < j → get_or b k 0 ≡ 0) → ClearTo b a j
+clear_words : (b : List ℕ) (a i j : ℕ) → ClearTo b a i → ((k : ℕ) → i ≤ k → k < j → get_or b k 0 ≡ 0) → ClearTo b a j
 clear_words b a i j c z k l u =
     elim (cases_lt k (32 * i)) [
       | inl v ↦ c k l v
@@ -106,7 +110,7 @@ clear_words b a i j c z k l u =
     ]
 
 -- a word that is not 0, with no bit below it
-pub found_in_word : (b : List ℕ) (a i : ℕ) → i < min (length b) 2048 → a ≤ 32 * i → ClearTo b a i → 0 < get_or b i 0 → get_or b i 0 < 2 ^ 32
+found_in_word : (b : List ℕ) (a i : ℕ) → i < min (length b) 2048 → a ≤ 32 * i → ClearTo b a i → 0 < get_or b i 0 → get_or b i 0 < 2 ^ 32
     → Lowest b a (Some (i * 32 + count_trailing_zeros 32 (get_or b i 0)))
 found_in_word b a i l u c pos fits =
     let w = get_or b i 0 in
@@ -122,9 +126,11 @@ found_in_word b a i l u c pos fits =
       ],
     )
 
--- no bit at all
-pub found_none : (b : List ℕ) (a : ℕ) → ClearTo b a (min (length b) 2048) → Lowest b a None
-found_none b a c k l u = c k l u
+-- the bit that is lowest in the first word that is not 0
+pub found_later : (b : List ℕ) (a i : ℕ) (r : Option ℕ) → Words b → a ≤ 32 * i → ClearTo b a i → FirstWord b i (min (length b) 2048) r
+    → Lowest b a (option_map (λ j. j * 32 + count_trailing_zeros 32 (get_or b j 0)) r)
+found_later b a i None w l c f = clear_words b a i (min (length b) 2048) c f
+found_later b a i (Some j) w l c f = found_in_word b a j f.1 (omega (arith, f.0)) (clear_words b a i j c f.3) (omega (arith, f.2)) (w j)
 
 -- the word in which the search begins, its bits below a shifted away
 module _ (b : List ℕ) (a : ℕ) (l : a / 32 < min (length b) 2048) (fits : get_or b (a / 32) 0 < 2 ^ 32) where

@@ -3,11 +3,9 @@ use Rattle.std.specs.Prelude.{ℕ, zero, suc, ◌+◌, ◌-◌, ◌*◌, Bool, f
 use Rattle.format.specs.Meaning.{Meaning}
 use Rattle.arena.specs.declared.buffers.Buffer.{Buffer}
 use Rattle.arena.specs.declared.buffers.Step.{Step}
-use Rattle.arena.specs.declared.buffers.Step.TheVariants.{Stop, Thing, Padding, Buffer as Passed}
-use Rattle.arena.specs.declared.segments.Owner.{Owner}
-use Rattle.arena.specs.declared.segments.Owner.TheVariants.{Free, Pool}
+use Rattle.arena.specs.declared.buffers.Step.TheVariants.{Thing, Padding, Buffer as Passed}
 use Rattle.arena.specs.declared.segments.Segments.{Segments}
-use Rattle.arena.specs.Segments.{owner_of, segments_in}
+use Rattle.arena.specs.Segments.{Owner, owner_of, segments_in}
 use Rattle.arena.specs.Buffers.{step_at}
 
 -- the run from a up to e, if it has words
@@ -16,11 +14,11 @@ closed a e = cond (nat_lt a e) (record { init = a; limit = e } ∷ []) []
 
 -- A padding goes on with the run that has begun; another thing, or a buffer, ends it, and so does the
 -- end of the row.
-abbrev pub runs_by : (ℕ → ℕ → List Buffer) → ℕ → ℕ → Step → List Buffer
-runs_by more run a Stop = closed run a
-runs_by more run a (Thing n) = closed run a ++ more n n
-runs_by more run a (Padding n) = more run n
-runs_by more run a (Passed n) = closed run a ++ more n n
+abbrev pub runs_by : (ℕ → ℕ → List Buffer) → ℕ → ℕ → Option Step → List Buffer
+runs_by more run a None = closed run a
+runs_by more run a (Some (Thing n)) = closed run a ++ more n n
+runs_by more run a (Some (Padding n)) = more run n
+runs_by more run a (Some (Passed n)) = closed run a ++ more n n
 
 -- the runs of a row from a on, in at most k steps, where a run has begun at `run`
 abbrev pub runs_from : Meaning → List Buffer → List ℕ → ℕ → ℕ → ℕ → ℕ → List Buffer
@@ -46,8 +44,8 @@ abbrev pub run_in : Meaning → List Buffer → List ℕ → ℕ → ℕ → ℕ
 run_in m bs ws size e a = first_fit size (runs_in m bs ws e a)
 
 abbrev pub is_pool : ℕ → Owner → Bool
-is_pool p Free = false
-is_pool p (Pool q) = q == p
+is_pool p None = false
+is_pool p (Some q) = q == p
 
 -- the lowest run that fits in segment s, if that is the pool's
 abbrev pub run_of : Meaning → Segments → List Buffer → List ℕ → ℕ → ℕ → ℕ → Option Buffer

@@ -1,5 +1,5 @@
 // A board has a bit for each word of the arena, 32 to a word.
-ghost use Rattle.std.specs.Prelude.{◌≡◌, ◌≤◌, length, replicate};
+ghost use Rattle.std.specs.Prelude.{◌≡◌, ◌≤◌, length, replicate, sum_by, count_ones};
 ghost use Rattle.arena.specs.Boards.{bit, with_bit, without_bit, lowest_bit, FirstWord, ones_of, BoardLaws};
 
 // The words of the longest board: 65,536 bits.
@@ -9,11 +9,9 @@ const LONGEST: usize = 2048;
 pub fn is_set(board: &[u32], a: usize) -> bool
     ensures { result ≡ bit board.now a }
 {
-    if a / 32 < board.len() {
-        (board[a / 32] >> (a % 32) as u32) & 1 == 1
-    } else {
-        false
-    }
+    board
+        .get(a / 32)
+        .is_some_and(|word| (*word >> (a % 32) as u32) & 1 == 1)
 }
 
 // Sets the bit at a.
@@ -43,15 +41,13 @@ pub fn clear_all(board: &mut [u32])
 
 // The first word from a place up to an end that is not 0.
 fn first_word(board: &[u32], from: usize, end: usize) -> Option<usize>
-    requires { end ≤ length board.now }
+    requires { (from ≤ end) × (end ≤ length board.now) }
     ensures { FirstWord board.now from end result }
 {
-    for i in from..end {
-        if board[i] != 0 {
-            return Some(i);
-        }
-    }
-    None
+    board[from..end]
+        .iter()
+        .position(|word| *word != 0)
+        .map(|i| from + i)
 }
 
 // The lowest bit that is set, of those from a place on.
@@ -66,20 +62,22 @@ pub fn lowest_from(board: &[u32], from: usize) -> Option<usize>
     if rest != 0 {
         return Some(from + rest.trailing_zeros() as usize);
     }
-    match first_word(board, from / 32 + 1, end) {
-        Some(i) => Some(i * 32 + board[i].trailing_zeros() as usize),
-        None => None,
-    }
+    first_word(board, from / 32 + 1, end).map(|i| i * 32 + board[i].trailing_zeros() as usize)
+}
+
+// How many bits are set in the words of a board that is not too long.
+fn ones_in(words: &[u32]) -> u32
+    requires { length words.now ≤ 2048 }
+    ensures { result ≡ sum_by count_ones words.now }
+{
+    words.iter().map(|word| word.count_ones()).sum()
 }
 
 // How many bits are set.
+#[tactic(auto, using(crate::proofs::BoardLaws::counting))]
 pub fn count_ones(board: &[u32]) -> u32
     ensures value { result ≡ ones_of board.now }
     ensures laws { BoardLaws }
 {
-    let mut sum = 0;
-    for i in 0..board.len().min(LONGEST) {
-        sum += board[i].count_ones();
-    }
-    sum
+    ones_in(&board[..board.len().min(LONGEST)])
 }

@@ -6,69 +6,87 @@ ghost use Rattle.arena.specs.Buffers.{no_buffer, begins, buffer_at, step_over, s
 use format::{Format, Head, look, pad};
 
 // The words from `init` up to `limit`, in which an allocation point makes objects.
-#[derive(Clone, Copy)]
+#[derive(Clone, Copy, PartialEq, Eq, Default, Debug)]
 pub struct Buffer {
     pub init: usize,
     pub limit: usize,
 }
 
-// What stands at a place of a row, and where the next place is.
-#[derive(Clone, Copy)]
+impl Buffer {
+    // Whether the buffer begins at a place. One without words begins nowhere.
+    fn begins_at(&self, place: usize) -> bool
+        ensures { result ≡ begins self.now place }
+    {
+        self.init == place && place < self.limit
+    }
+
+    // Closes the buffer: what is left of it becomes one padding, and there is none.
+    pub fn close<F: Format>(&mut self, format: &F, words: &mut [u32])
+        ensures words { words.new ≡ padded_part (F.Format.meaning format.now) self.old.init self.old.limit words.old }
+        ensures buffer { self.new ≡ no_buffer }
+    {
+        pad_part(format, words, self.init, self.limit);
+        *self = Buffer::default();
+    }
+}
+
+// What a step along a row goes over, and where the next place is.
+#[derive(Clone, Copy, PartialEq, Eq, Debug)]
 pub enum Step {
-    Stop,
     Thing(usize),
     Padding(usize),
     Buffer(usize),
 }
 
-// Whether a buffer begins at a place. One without words begins nowhere.
-fn begins_at(buffer: Buffer, place: usize) -> bool
-    ensures { result ≡ begins buffer place }
-{
-    buffer.init == place && place < buffer.limit
+// An arena's words, read in a format, with the buffers that a walk passes over.
+#[derive(Drop)]
+#[derive_where(Clone, Copy)]
+pub struct Rows<'a, F> {
+    pub format: &'a F,
+    pub buffers: &'a [Buffer],
+    pub words: &'a [u32],
 }
 
-// Where the buffer ends that begins at a place.
-fn buffer_end(buffers: &[Buffer], place: usize) -> Option<usize>
-    ensures { result ≡ buffer_at buffers.now place }
-{
-    for buffer in buffers {
-        if begins_at(*buffer, place) {
-            return Some(buffer.limit);
+impl<F: Format> Rows<'_, F> {
+    // Where the buffer ends that begins at a place.
+    fn buffer_end(&self, place: usize) -> Option<usize>
+        ensures { result ≡ buffer_at self.now.buffers.now place }
+    {
+        self.buffers
+            .iter()
+            .find(|buffer| buffer.begins_at(place))
+            .map(|buffer| buffer.limit)
+    }
+
+    // The step from a place of a row that ends at `end`: over a buffer, over a thing that lies before
+    // the end, or none.
+    pub fn next_step(&self, place: usize, end: usize) -> Option<Step>
+        ensures { result ≡ step_at (F.Format.meaning self.now.format.now) self.now.buffers.now self.now.words.now end place }
+    {
+        if place >= end || end > self.words.len() {
+            return None;
+        }
+        match self.buffer_end(place) {
+            Some(limit) => Some(Step::Buffer(limit)),
+            None => step_over(
+                self.format,
+                place,
+                look(self.format, &self.words[place..end]),
+            ),
         }
     }
-    None
 }
 
-fn step_over<F: Format>(format: &F, place: usize, head: Head) -> Step
+// The step over what stands at a place.
+fn step_over<F: Format>(format: &F, place: usize, head: Head) -> Option<Step>
     requires { place + extent (F.Format.meaning format.now) head < 2 ^ 64 }
     ensures { result ≡ step_over (F.Format.meaning format.now) place head }
 {
     match head {
-        Head::Nothing => Step::Stop,
-        Head::Object(shape) => Step::Thing(place + format.size(shape)),
-        Head::Forwarded { size, .. } => Step::Thing(place + size),
-        Head::Padding { size } => Step::Padding(place + size),
-    }
-}
-
-// The step from a place of a row that ends at `end`: over a buffer, over a thing that lies before
-// the end, or none.
-pub fn next_step<F: Format>(
-    format: &F,
-    buffers: &[Buffer],
-    words: &[u32],
-    place: usize,
-    end: usize,
-) -> Step
-    ensures { result ≡ step_at (F.Format.meaning format.now) buffers.now words.now end place }
-{
-    if place >= end || end > words.len() {
-        return Step::Stop;
-    }
-    match buffer_end(buffers, place) {
-        Some(limit) => Step::Buffer(limit),
-        None => step_over(format, place, look(format, &words[place..end])),
+        Head::Nothing => None,
+        Head::Object(shape) => Some(Step::Thing(place + format.size(shape))),
+        Head::Forwarded { size, .. } => Some(Step::Thing(place + size)),
+        Head::Padding { size } => Some(Step::Padding(place + size)),
     }
 }
 
@@ -79,13 +97,4 @@ pub fn pad_part<F: Format>(format: &F, words: &mut [u32], from: usize, end: usiz
     if from <= end && end <= words.len() {
         let _ = pad(format, &mut words[from..end]);
     }
-}
-
-// Closes a buffer: what is left of it becomes one padding, and there is none.
-pub fn close<F: Format>(format: &F, words: &mut [u32], buffer: &mut Buffer)
-    ensures words { words.new ≡ padded_part (F.Format.meaning format.now) buffer.old.init buffer.old.limit words.old }
-    ensures buffer { buffer.new ≡ no_buffer }
-{
-    pad_part(format, words, buffer.init, buffer.limit);
-    *buffer = Buffer { init: 0, limit: 0 };
 }

@@ -7,6 +7,5 @@ mod runs;
 mod segments;
 
 pub use boards::{clear_all, clear_bit, count_ones, is_set, lowest_from, set_bit};
-pub use buffers::{Buffer, Step, close, next_step, pad_part};
-pub use runs::lowest_run;
-pub use segments::{Owner, Segments, free};
+pub use buffers::{Buffer, Rows, Step, pad_part};
+pub use segments::{Owner, Segments};

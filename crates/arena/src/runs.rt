@@ -2,8 +2,8 @@
 ghost use Rattle.std.specs.Prelude.{◌≡◌};
 ghost use Rattle.arena.specs.Runs.{fitting, run_in, run_of, lowest_run};
 
-use crate::buffers::{Buffer, Step, next_step};
-use crate::segments::{Owner, Segments};
+use crate::buffers::{Buffer, Rows, Step};
+use crate::segments::Segments;
 use format::Format;
 
 // The run from a place up to an end, if it has words, and as many as are wanted.
@@ -20,83 +20,55 @@ fn fitting_run(from: usize, end: usize, size: usize) -> Option<Buffer>
     }
 }
 
-// The lowest run of at least so many words in a row.
-fn run_in_row<F: Format>(
-    format: &F,
-    buffers: &[Buffer],
-    words: &[u32],
-    from: usize,
-    end: usize,
-    size: usize,
-) -> Option<Buffer>
-    ensures { result ≡ run_in (F.Format.meaning format.now) buffers.now words.now size end from }
-{
-    let mut run = from;
-    let mut place = from;
-    loop {
-        match next_step(format, buffers, words, place, end) {
-            Step::Stop => return fitting_run(run, place, size),
-            Step::Padding(next) => place = next,
-            Step::Thing(next) | Step::Buffer(next) => {
-                if let Some(found) = fitting_run(run, place, size) {
-                    return Some(found);
+impl<F: Format> Rows<'_, F> {
+    // The lowest run of at least so many words in a row.
+    #[tactic(auto, using(crate::proofs::Walks::walking))]
+    fn run_in_row(&self, from: usize, end: usize, size: usize) -> Option<Buffer>
+        ensures { result ≡ run_in (F.Format.meaning self.now.format.now) self.now.buffers.now self.now.words.now size end from }
+    {
+        let mut run = from;
+        let mut place = from;
+        while let Some(step) = self.next_step(place, end) {
+            match step {
+                Step::Padding(next) => place = next,
+                Step::Thing(next) | Step::Buffer(next) => {
+                    if let Some(found) = fitting_run(run, place, size) {
+                        return Some(found);
+                    }
+                    run = next;
+                    place = next;
                 }
-                run = next;
-                place = next;
             }
         }
+        fitting_run(run, place, size)
     }
-}
 
-// The lowest run of at least so many words in a segment, if the segment is the pool's.
-fn run_in_segment<F: Format>(
-    format: &F,
-    segments: &Segments,
-    buffers: &[Buffer],
-    words: &[u32],
-    segment: u8,
-    pool: u8,
-    size: usize,
-) -> Option<Buffer>
-    ensures { result ≡ run_of (F.Format.meaning format.now) segments.now buffers.now words.now pool size segment }
-{
-    let base = segment as usize * 256;
-    match segments.owner(segment) {
-        Owner::Pool(owner) if owner == pool => run_in_row(
-            format,
-            buffers,
-            words,
-            base,
-            base + 256,
-            size,
-        ),
-        _ => None,
+    // The lowest run of at least so many words in a segment, if the segment is the pool's.
+    fn run_in_segment(
+        &self,
+        segments: &Segments,
+        segment: u8,
+        pool: u8,
+        size: usize,
+    ) -> Option<Buffer>
+        ensures { result ≡ run_of (F.Format.meaning self.now.format.now) segments.now self.now.buffers.now self.now.words.now pool size segment }
+    {
+        if segments.owner(segment) != Some(pool) {
+            return None;
+        }
+        let base = segment as usize * 256;
+        self.run_in_row(base, base + 256, size)
     }
-}
 
-// The lowest run of at least so many words in a pool's segments.
-pub fn lowest_run<F: Format>(
-    format: &F,
-    segments: &Segments,
-    buffers: &[Buffer],
-    words: &[u32],
-    pool: u8,
-    size: usize,
-) -> Option<Buffer>
-    ensures { result ≡ lowest_run (F.Format.meaning format.now) segments.now buffers.now words.now pool size }
-{
-    for segment in 1..(words.len() / 256).min(256) {
-        if let Some(found) = run_in_segment(
-            format,
+    // The lowest run of at least so many words in a pool's segments.
+    pub fn lowest_run(&self, segments: &Segments, pool: u8, size: usize) -> Option<Buffer>
+        ensures { result ≡ lowest_run (F.Format.meaning self.now.format.now) segments.now self.now.buffers.now self.now.words.now pool size }
+    {
+        (1..(self.words.len() / 256).min(256)).find_map(|segment| self.run_in_segment(
             segments,
-            buffers,
-            words,
             segment as u8,
             pool,
             size,
-        ) {
-            return Some(found);
-        }
+        ))
     }
-    None
 }

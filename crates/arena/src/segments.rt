@@ -4,12 +4,8 @@ ghost use Rattle.arena.specs.Segments.{all_free, owner_of, owned, lowest_free, l
 
 use crate::boards::clear_all;
 
-// Whose a segment is.
-#[derive(Clone, Copy)]
-pub enum Owner {
-    Free,
-    Pool(u8),
-}
+// Whose a segment is: a pool's, or nobody's.
+pub type Owner = Option<u8>;
 
 // The owners of an arena's segments, of which there are at most 256.
 #[derive(Clone, Copy)]
@@ -23,7 +19,7 @@ impl Segments {
         ensures { result ≡ all_free }
     {
         Segments {
-            owners: [Owner::Free; 256],
+            owners: [None; 256],
         }
     }
 
@@ -38,7 +34,7 @@ impl Segments {
     pub fn give(&mut self, segment: u8, pool: u8)
         ensures { self.new ≡ owned self.old segment pool }
     {
-        self.owners[segment as usize] = Owner::Pool(pool);
+        self.owners[segment as usize] = Some(pool);
     }
 
     // The lowest free segment of an arena of so many words, but for segment 0.
@@ -54,24 +50,20 @@ impl Segments {
         ensures answer { result ≡ lowest_free_from self.now words from }
         ensures inside { InsideFrom from words result }
     {
-        for segment in from..(words / 256).min(256) {
-            match self.owner(segment as u8) {
-                Owner::Free => return Some(segment as u8),
-                Owner::Pool(_) => {}
-            }
-        }
-        None
+        (from..(words / 256).min(256))
+            .find(|segment| self.owner(*segment as u8).is_none())
+            .map(|segment| segment as u8)
     }
-}
 
-// Frees a segment that lies in the arena: all its words are 0, and it is nobody's.
-pub fn free(segments: &mut Segments, words: &mut [u32], segment: u8)
-    ensures state { segments.new ≡ freed segments.old (length words.old) segment }
-    ensures words { words.new ≡ freed_words words.old segment }
-{
-    let base = segment as usize * 256;
-    if base + 256 <= words.len() {
-        clear_all(&mut words[base..base + 256]);
-        segments.owners[segment as usize] = Owner::Free;
+    // Frees a segment that lies in the arena: all its words are 0, and it is nobody's.
+    pub fn free(&mut self, words: &mut [u32], segment: u8)
+        ensures state { self.new ≡ freed self.old (length words.old) segment }
+        ensures words { words.new ≡ freed_words words.old segment }
+    {
+        let base = segment as usize * 256;
+        if base + 256 <= words.len() {
+            clear_all(&mut words[base..base + 256]);
+            self.owners[segment as usize] = None;
+        }
     }
 }

@@ -14,10 +14,10 @@ pub const MOST_COLLECTIONS: u32 = 1_000_000;
 
 // The zones that were aged, as sets of 32 bits. Of the recent sets, the one at an epoch's remainder
 // by 4 has every zone that was aged since that epoch; `ever` has every zone that was ever aged.
-#[derive(Clone, Copy, Debug)]
+#[derive(Clone, Copy, PartialEq, Eq, Default, Debug)]
 pub struct History {
     epoch: u32,
-    recent: [u32; 4],
+    recent: [u32; DEPTH],
     ever: u32,
 }
 
@@ -47,11 +47,7 @@ impl History {
     pub fn new() -> History
         ensures { result ≡ empty_history }
     {
-        History {
-            epoch: 0,
-            recent: [0; 4],
-            ever: 0,
-        }
+        History::default()
     }
 
     // How often the arena has been aged.
@@ -61,11 +57,11 @@ impl History {
         self.epoch
     }
 
-    // The zones that were aged since an epoch, or at any time if that is more than four ageings ago.
+    // The zones that were aged since an epoch, or at any time if that is more than DEPTH ageings ago.
     fn aged_since(&self, epoch: u32) -> u32
         ensures { result ≡ aged_since self.now epoch }
     {
-        if self.epoch > epoch && self.epoch - epoch > 4 {
+        if self.epoch.saturating_sub(epoch) as usize > DEPTH {
             self.ever
         } else {
             self.recent[epoch as usize % DEPTH]
@@ -82,8 +78,7 @@ impl History {
         }
         let mut recent = self.recent;
         recent[self.epoch as usize % DEPTH] = 0;
-        let [a, b, c, d] = recent;
-        self.recent = [a | zones, b | zones, c | zones, d | zones];
+        self.recent = recent.map(|set| set | zones);
         self.ever |= zones;
         self.epoch += 1;
         Ok(())

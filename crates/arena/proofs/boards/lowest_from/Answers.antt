@@ -1,38 +1,21 @@
-use Rattle.std.proofs.Common.{◌+◌, ◌/◌, None, arith}
-use Rattle.arena.specs.Boards.{lowest_bit}
-use Rattle.arena.proofs.Lowest.{lowest_is, lowest_one, first_clear, clear_words, found_at_first, found_in_word, found_none}
+use Rattle.std.proofs.Common.{rules, ◌≡◌, ◌+◌, ◌*◌, ◌/◌, get_or, min, length, ◌∙◌, sym, subst, arith}
+use lib.Count.{count_trailing_zeros}
+use Rattle.std.specs.Option.{option_map}
+use Rattle.arena.specs.Boards.{FirstWord}
+use Rattle.arena.proofs.Lowest.{lowest_found, first_clear, found_at_first, found_later}
 use Rattle.arena.proofs.boards.lowest_from.Goals as goal
-
-pub returns-then-from-end : goal.returns-then-from-end
-returns-then-from-end c =
-    lowest_one c.args.board.now c.args.from None (lowest_bit c.args.board.now c.args.from)
-    (λ k p q. absurd (omega (arith, c.if-from-end.true, c.min-end.ensures))) (lowest_is c.args.board.now c.args.from)
 
 pub returns-then-rest-ne0 : goal.returns-then-rest-ne0
 returns-then-rest-ne0 c =
-    lowest_one c.args.board.now c.args.from _ (lowest_bit c.args.board.now c.args.from)
+    lowest_found c.args.board.now c.args.from _
     (found_at_first c.args.board.now c.args.from (omega (arith, c.if-from-end.false, c.min-end.ensures))
     (omega (arith, c.type_inv.board (c.args.from / 32))) (omega (arith, c.if-rest-ne0.true)))
-    (lowest_is c.args.board.now c.args.from)
 
-pub returns-in-Some : goal.returns-in-Some
-returns-in-Some c =
+pub returns : goal.returns
+returns c =
     let b = c.args.board.now in
     let a = c.args.from in
-    let i = c.in-Some.i in
-    let e = c.in-Some.ensures in
     let front = first_clear b a (omega (arith, c.if-from-end.false, c.min-end.ensures)) (omega (arith, c.type_inv.board (a / 32))) c.if-rest-ne0.false in
-    lowest_one b a _ (lowest_bit b a)
-    (found_in_word b a i (omega (arith, e.1, c.min-end.ensures)) (omega (arith, e.0)) (clear_words b a (a / 32 + 1) i front e.3)
-    (omega (arith, e.2)) (omega (arith, c.type_inv.board i)))
-    (lowest_is b a)
-
-pub returns-in-None : goal.returns-in-None
-returns-in-None c =
-    let b = c.args.board.now in
-    let a = c.args.from in
-    let e = c.in-None.ensures in
-    let front = first_clear b a (omega (arith, c.if-from-end.false, c.min-end.ensures)) (omega (arith, c.type_inv.board (a / 32))) c.if-rest-ne0.false in
-    lowest_one b a None (lowest_bit b a)
-    (found_none b a (rw c.min-end.ensures at (clear_words b a (a / 32 + 1) c.min-end.result front e)))
-    (lowest_is b a)
+    let e : c.map.result ≡ option_map (λ i. i * 32 + count_trailing_zeros 32 (get_or b i 0)) c.first_word.result = search rules in
+    let f = subst (λ n. FirstWord b (a / 32 + 1) n c.first_word.result) c.min-end.ensures c.first_word.ensures in
+    e ∙ lowest_found b a _ (found_later b a (a / 32 + 1) c.first_word.result (λ i. omega (arith, c.type_inv.board i)) (omega arith) front f)
