@@ -6,8 +6,7 @@ use Rattle.format.specs.declared.things.Head.{Head}
 use Rattle.format.specs.declared.things.Head.TheVariants.{Forwarded, Padding}
 use Rattle.format.specs.Meaning.{Meaning, shape, seen, object, padding, span}
 use Rattle.format.specs.Laws.{Lawful, part}
-use Rattle.arena.specs.declared.segments.Owner.{Owner}
-use Rattle.arena.specs.declared.segments.Owner.TheVariants.{Free, Pool}
+use Rattle.arena.specs.Segments.{Owner}
 use Rattle.arena.specs.Boards.{bit}
 use Rattle.arena.proofs.BoardLaws.{laws_of}
 use Rattle.trace.specs.declared.sweeping.Stand.TheVariants.{Kept, Loose}
@@ -108,7 +107,7 @@ module _ (S : Start) (ok : Sound S) (laws : Lawful S.meaning) where
 
   -- each owned segment is a row of the start's bases
   abbrev pub Rowed : Type 0
-  Rowed = (s p : ℕ) → owner0 S s ≡ Pool p → Row M m (s * 256 + 256) (s * 256)
+  Rowed = (s p : ℕ) → owner0 S s ≡ Some p → Row M m (s * 256 + 256) (s * 256)
       × ((q : ℕ) → is_base M m (s * 256 + 256) 256 (s * 256) q ≡ true → Std S q × (q / 256 ≡ s))
 
   abbrev pub to_scan : ℕ → Bool
@@ -118,10 +117,10 @@ module _ (S : Start) (ok : Sound S) (laws : Lawful S.meaning) where
   abbrev pub Scanned : ℕ → ℕ → Type 0
   Scanned k q = (j : ℕ) → j < k → to_scan j ≡ true → is_base M m (j * 256 + 256) 256 (j * 256) q ≡ false
 
-  to_scan_is : (c : Bool) (o : Owner) → (not c && refers S.plan.classes o) ≡ true → ((p : ℕ) × (o ≡ Pool p)) × (c ≡ false)
+  to_scan_is : (c : Bool) (o : Owner) → (not c && refers S.plan.classes o) ≡ true → ((p : ℕ) × (o ≡ Some p)) × (c ≡ false)
   to_scan_is true o h = absurd (both_ways false refl h)
-  to_scan_is false Free h = absurd (both_ways false refl h)
-  to_scan_is false (Pool p) h = ((p, refl), refl)
+  to_scan_is false None h = absurd (both_ways false refl h)
+  to_scan_is false (Some p) h = ((p, refl), refl)
 
   scan_segment_ok : Rowed → (Todo : ℕ → Type 0) → ((q : ℕ) → Todo q → Obj S q) → (s : ℕ) (t : Heap) → Inv S Todo t
       → Went S (λ q. Todo q × (to_scan s ≡ true → is_base M m (s * 256 + 256) 256 (s * 256) q ≡ false)) t (segment_scanned M S.plan S.space.segments t s)
@@ -238,7 +237,7 @@ module _ (S : Start) (ok : Sound S) (laws : Lawful S.meaning) where
 
   -- ---- all ambiguous words
 
-  module _ (rows : Rowed) (used : (s : ℕ) → get_or S.plan.condemned s false ≡ true → (p : ℕ) × (owner0 S s ≡ Pool p)) (Todo : ℕ → Type 0) where
+  module _ (rows : Rowed) (used : (s : ℕ) → get_or S.plan.condemned s false ≡ true → (p : ℕ) × (owner0 S s ≡ Some p)) (Todo : ℕ → Type 0) where
     abbrev nail : Heap → ℕ → Heap
     nail t w = nailed M S.plan t w
 

@@ -6,11 +6,9 @@ use Rattle.format.specs.declared.things.Head.TheVariants.{Nothing, Object, Forwa
 use Rattle.format.specs.Meaning.{Meaning, seen}
 use Rattle.format.specs.Laws.{part}
 use Rattle.arena.specs.declared.buffers.Buffer.{Buffer}
-use Rattle.arena.specs.declared.segments.Owner.{Owner}
-use Rattle.arena.specs.declared.segments.Owner.TheVariants.{Free, Pool}
 use Rattle.arena.specs.declared.segments.Segments.{Segments}
 use Rattle.arena.specs.Boards.{ones_of}
-use Rattle.arena.specs.Segments.{owner_of, segments_in}
+use Rattle.arena.specs.Segments.{Owner, owner_of, segments_in}
 use Rattle.arena.specs.Buffers.{no_buffer, padded_part}
 use Rattle.location.specs.Locations.{zone_bit}
 use Rattle.trace.specs.declared.state.Class.{Class}
@@ -35,8 +33,8 @@ all_buffers_closed m bs ws = buffers_closed m bs ws 8
 -- ---- condemning
 
 abbrev pub in_set : ℕ → Owner → Bool
-in_set pools Free = false
-in_set pools (Pool p) = nat_lt p 8 && pools / 2 ^ p % 2 == 1
+in_set pools None = false
+in_set pools (Some p) = nat_lt p 8 && pools / 2 ^ p % 2 == 1
 
 -- A segment is condemned if it belongs to a pool of the set.
 unfoldable pub condemned_by : Segments → ℕ → List Bool
@@ -47,8 +45,8 @@ abbrev pub class_in : List Class → ℕ → Option Class
 class_in classes p = cond (nat_lt p 8) (Some (slice_index_or classes p Amc)) None
 
 abbrev pub class_of_owner : List Class → Owner → Option Class
-class_of_owner classes Free = None
-class_of_owner classes (Pool p) = class_in classes p
+class_of_owner classes None = None
+class_of_owner classes (Some p) = class_in classes p
 
 abbrev pub is_amc : Class → Bool
 is_amc Amc = true
@@ -61,8 +59,8 @@ is_lo Ams = false
 is_lo Lo = true
 
 abbrev pub moves : List Class → Owner → Bool
-moves classes Free = false
-moves classes (Pool p) = nat_lt p 8 && is_amc (slice_index_or classes p Amc)
+moves classes None = false
+moves classes (Some p) = nat_lt p 8 && is_amc (slice_index_or classes p Amc)
 
 -- the zone of segment s, if it is a condemned AMC segment
 abbrev pub zone_if : Plan → Segments → ℕ → ℕ
@@ -147,8 +145,8 @@ abbrev pub row_scanned : Meaning → Plan → Heap → ℕ → ℕ → Heap
 row_scanned m y v base limit = walked (scanned m y) (end_at m limit) limit (limit - base) v base
 
 abbrev pub refers : List Class → Owner → Bool
-refers classes Free = false
-refers classes (Pool p) = nat_lt p 8 && not (is_lo (slice_index_or classes p Amc))
+refers classes None = false
+refers classes (Some p) = nat_lt p 8 && not (is_lo (slice_index_or classes p Amc))
 
 -- LO is skipped.
 abbrev pub segment_scanned : Meaning → Plan → Segments → Heap → ℕ → Heap

@@ -8,11 +8,9 @@ use Rattle.format.specs.declared.things.Slot.{Slot}
 use Rattle.format.specs.declared.things.Slot.TheVariants.{Reference, Number}
 use Rattle.format.specs.Meaning.{Meaning, seen}
 use Rattle.format.specs.Laws.{part, rewritten}
-use Rattle.arena.specs.declared.segments.Owner.{Owner}
-use Rattle.arena.specs.declared.segments.Owner.TheVariants.{Free, Pool}
 use Rattle.arena.specs.declared.segments.Segments.{Segments}
 use Rattle.arena.specs.Boards.{bit, with_bit, without_bit, lowest_bit}
-use Rattle.arena.specs.Segments.{owner_of, owned, lowest_free, freed, freed_words, in_arena}
+use Rattle.arena.specs.Segments.{Owner, owner_of, owned, lowest_free, freed, freed_words, in_arena}
 use Rattle.arena.specs.Buffers.{padded_part}
 use Rattle.trace.specs.declared.state.Class.{Class}
 use Rattle.trace.specs.declared.state.Class.TheVariants.{Amc, Ams, Lo}
@@ -61,8 +59,8 @@ by_class t len p n Ams = Grey
 by_class t len p n Lo = Mark
 
 abbrev pub by_owner : Plan → Trace → ℕ → ℕ → Owner → Fate
-by_owner y t len n Free = Stay
-by_owner y t len n (Pool p) = cond (nat_lt p 8) (by_class t len p n (class_of y p)) Stay
+by_owner y t len n None = Stay
+by_owner y t len n (Some p) = cond (nat_lt p 8) (by_class t len p n (class_of y p)) Stay
 
 abbrev pub by_head : Meaning → Plan → Trace → ℕ → ℕ → Head → Fate
 by_head m y t len a Nothing = Stay

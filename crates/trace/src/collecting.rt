@@ -3,11 +3,11 @@ ghost use Rattle.std.specs.Prelude.{◌≡◌, ◌+◌, ◌*◌, ◌<◌, ◌≤
 ghost use Rattle.trace.specs.Collections.{end_at, row_scanned, refers, segment_scanned, all_scanned, all_targets_closed, ground, segment_swept, all_swept, value_of};
 ghost use Rattle.trace.specs.Lent.{contents, HeapStaysLent};
 
-use crate::deciding::rest_of;
+use crate::fixing::pad_rest;
 use crate::heap::Heap;
 use crate::state::{Class, Plan, Trace, Tracer};
 use crate::sweeping::{end_of, stand_at, sweep};
-use arena::{Owner, Segments, count_ones, pad_part};
+use arena::{Owner, Segments, count_ones};
 use format::Format;
 
 impl Plan {
@@ -73,7 +73,7 @@ pub(crate) fn close_targets<F: Format>(format: &F, trace: &Trace, words: &mut [u
     ensures { words.new ≡ all_targets_closed (F.Format.meaning format.now) trace.now words.old }
 {
     for at in &trace.targets {
-        pad_part(format, words, *at as usize, *at as usize + rest_of(*at));
+        pad_rest(format, words, *at);
     }
 }
 

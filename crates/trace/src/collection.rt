@@ -1,7 +1,7 @@
 // The collection of a set of pools.
 ghost use Rattle.std.specs.Prelude.{◌≡◌, ◌+◌, length, replicate};
-ghost use Rattle.trace.specs.Collections.{value_of};
-ghost use Rattle.trace.specs.Collect.{fits, held, plan_of, performed, collected, outcome};
+ghost use Rattle.trace.specs.Collections.{all_buffers_closed, value_of};
+ghost use Rattle.trace.specs.Collect.{fits, held, unbuffered, plan_of, performed, collected, outcome};
 ghost use Rattle.trace.specs.Remembering.{Remembers};
 ghost use Rattle.trace.specs.Keeping.{NewArenasSound, CollectionsKeep};
 ghost use Rattle.trace.specs.Lent.{held_in, StaysLent};
@@ -51,8 +51,7 @@ fn perform<F: Format>(
 ) -> u32
     ensures { outcome result (held arena.new words.new marks.new greys.new) ≡ performed (F.Format.meaning format.now) plan.now (held arena.old words.old marks.old greys.old) }
 {
-    close_buffers(format, words, &arena.buffers);
-    arena.buffers = [Buffer { init: 0, limit: 0 }; 8];
+    arena.close_buffers(format, words);
     let mut heap = Heap {
         state: Trace::new(arena.segments),
         words,
@@ -68,6 +67,15 @@ fn perform<F: Format>(
 }
 
 impl Arena {
+    // Closes the buffers of all allocation points: there are none then.
+    fn close_buffers<F: Format>(&mut self, format: &F, words: &mut [u32])
+        ensures words { words.new ≡ all_buffers_closed (F.Format.meaning format.now) self.old.buffers words.old }
+        ensures arena { self.new ≡ unbuffered self.old }
+    {
+        close_buffers(format, words, &self.buffers);
+        self.buffers = [Buffer::default(); 8];
+    }
+
     // What a collection of a set of pools does not change.
     fn plan(&self, pools: u8) -> Plan
         ensures { result ≡ plan_of self.now pools }

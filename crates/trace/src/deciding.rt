@@ -7,7 +7,7 @@ ghost use Rattle.trace.specs.Lent.{contents};
 
 use crate::heap::Heap;
 use crate::state::{Class, Plan, Trace, Tracer};
-use arena::{Owner, is_set};
+use arena::is_set;
 use format::{Format, Head};
 
 // What becomes of the object at a reference.
@@ -57,7 +57,7 @@ impl Plan {
         ensures which { result ≡ by_owner self.now trace.now len size (owner_of trace.now.segments segment) }
         ensures fits { Within len size result }
     {
-        let Owner::Pool(pool) = trace.segments.owner(segment) else {
+        let Some(pool) = trace.segments.owner(segment) else {
             return Fate::Stay;
         };
         match self.class(pool) {

@@ -1,6 +1,7 @@
 // Fixing a reference.
 ghost use Rattle.std.specs.Prelude.{◌≡◌, ◌+◌, ◌<◌, ◌≤◌, length};
-ghost use Rattle.trace.specs.Traces.{taken, copied_words, advanced, copied, fix_answer, fixed};
+ghost use Rattle.arena.specs.Buffers.{padded_part};
+ghost use Rattle.trace.specs.Traces.{rest, taken, copied_words, advanced, copied, fix_answer, fixed};
 ghost use Rattle.trace.specs.Lent.{contents, HeapStaysLent};
 
 use crate::deciding::{Fate, rest_of};
@@ -9,6 +10,13 @@ use crate::parts::{copy_words, forward_at};
 use crate::state::{Trace, Tracer};
 use arena::pad_part;
 use format::Format;
+
+// Pads the rest of a target, where its next word is at `at`.
+pub(crate) fn pad_rest<F: Format>(format: &F, words: &mut [u32], at: u32)
+    ensures { words.new ≡ padded_part (F.Format.meaning format.now) at (at + rest at) words.old }
+{
+    pad_part(format, words, at as usize, at as usize + rest_of(at));
+}
 
 // Copies an object's words, and marks the original as forwarded.
 fn move_words<F: Format>(format: &F, words: &mut [u32], a: usize, size: usize, to: u32)
@@ -38,12 +46,7 @@ impl<F: Format> Tracer<'_, F> {
         ensures lent { HeapStaysLent heap.old heap.new }
     {
         let at = heap.state.targets[pool as usize];
-        pad_part(
-            self.format,
-            heap.words,
-            at as usize,
-            at as usize + rest_of(at),
-        );
+        pad_rest(self.format, heap.words, at);
         heap.state.targets[pool as usize] = segment as u32 * 256;
         heap.state.segments.give(segment, pool);
     }

@@ -24,10 +24,7 @@ pub(crate) fn close_buffers<F: Format>(format: &F, words: &mut [u32], buffers: &
 fn is_in_set(pools: u8, owner: Owner) -> bool
     ensures { result ≡ in_set pools owner }
 {
-    match owner {
-        Owner::Free => false,
-        Owner::Pool(pool) => pool < 8 && (pools >> pool) % 2 == 1,
-    }
+    owner.is_some_and(|pool| pool < 8 && (pools >> pool) % 2 == 1)
 }
 
 // The segments that a set of pools condemns.

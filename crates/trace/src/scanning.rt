@@ -4,7 +4,6 @@ ghost use Rattle.trace.specs.Traces.{slot_fixed, slots_fixed, scanned, turned, r
 ghost use Rattle.trace.specs.Lent.{contents, HeapStaysLent};
 
 use crate::heap::Heap;
-use crate::parts::put_slot;
 use crate::state::Tracer;
 use arena::clear_bit;
 use format::{Format, Head, Shape, Slot};
@@ -19,15 +18,8 @@ impl<F: Format> Tracer<'_, F> {
         if let Slot::Reference(old) = self.slot_at(heap, a, size, shape, i) {
             let new = self.fix(heap, old);
             if new != old {
-                put_slot(
-                    self.format,
-                    heap.words,
-                    a,
-                    size,
-                    shape,
-                    i,
-                    Slot::Reference(new),
-                );
+                let own = &mut heap.words[a..a + size];
+                self.format.write_slot(own, shape, i, Slot::Reference(new));
             }
         }
     }

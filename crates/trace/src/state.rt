@@ -50,10 +50,7 @@ impl Plan {
     pub(crate) fn class_of(&self, owner: Owner) -> Option<Class>
         ensures { result ≡ class_of_owner self.now.classes owner }
     {
-        match owner {
-            Owner::Free => None,
-            Owner::Pool(pool) => self.class(pool),
-        }
+        owner.and_then(|pool| self.class(pool))
     }
 }
 
@@ -91,7 +88,7 @@ impl Arena {
     {
         Arena {
             segments: Segments::new(),
-            buffers: [Buffer { init: 0, limit: 0 }; 8],
+            buffers: [Buffer::default(); 8],
             classes,
             history: History::new(),
             registers: [0; 16],

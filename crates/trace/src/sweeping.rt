@@ -4,7 +4,7 @@ ghost use Rattle.std.specs.Prelude.{◌≡◌, ◌+◌, ◌^◌, ◌<◌, ◌≤
 ghost use Rattle.format.specs.Meaning.{extent};
 ghost use Rattle.trace.specs.Traces.{stand_by, stood, end_of, row, swept_row, swept_words, swept_segments};
 
-use arena::{Segments, free, is_set, pad_part};
+use arena::{Segments, is_set, pad_part};
 use format::{Format, Head, look};
 
 // Where a thing of a row ends, and whether it is kept.
@@ -100,7 +100,7 @@ pub fn sweep<F: Format>(
     if limit <= words.len() {
         let run = sweep_row(format, words, marks, base, limit);
         if run == base {
-            free(segments, words, segment);
+            segments.free(words, segment);
         } else {
             pad_part(format, words, run, limit);
         }
