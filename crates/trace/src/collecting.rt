@@ -77,34 +77,29 @@ pub(crate) fn close_targets<F: Format>(format: &F, trace: &Trace, words: &mut [u
     }
 }
 
-fn sweep_condemned<F: Format>(
-    format: &F,
-    plan: &Plan,
-    segments: &mut Segments,
-    words: &mut [u32],
-    marks: &[u32],
-    segment: u8,
-)
-    ensures { ground segments.new words.new ≡ segment_swept (F.Format.meaning format.now) plan.now marks.now (ground segments.old words.old) segment }
-{
-    if plan.condemned[segment as usize] {
-        sweep(format, segments, words, marks, segment);
+impl<F: Format> Tracer<'_, F> {
+    fn sweep_condemned(
+        &self,
+        segments: &mut Segments,
+        words: &mut [u32],
+        marks: &[u32],
+        segment: u8,
+    )
+        ensures { ground segments.new words.new ≡ segment_swept (F.Format.meaning self.now.format.now) self.now.plan.now marks.now (ground segments.old words.old) segment }
+    {
+        if self.plan.condemned[segment as usize] {
+            sweep(self.format, segments, words, marks, segment);
+        }
     }
-}
 
-// Sweeps the condemned segments.
-#[tactic(auto, using(crate::proofs::Loops::next_swept), unfolding(crate::specs::Collections::all_swept))]
-pub(crate) fn sweep_segments<F: Format>(
-    format: &F,
-    plan: &Plan,
-    segments: &mut Segments,
-    words: &mut [u32],
-    marks: &[u32],
-)
-    ensures { ground segments.new words.new ≡ all_swept (F.Format.meaning format.now) plan.now marks.now (ground segments.old words.old) }
-{
-    for s in 0..(words.len() / 256).min(256) {
-        sweep_condemned(format, plan, segments, words, marks, s as u8);
+    // Sweeps the condemned segments.
+    #[tactic(auto, using(crate::proofs::Loops::next_swept), unfolding(crate::specs::Collections::all_swept))]
+    pub(crate) fn sweep_segments(&self, segments: &mut Segments, words: &mut [u32], marks: &[u32])
+        ensures { ground segments.new words.new ≡ all_swept (F.Format.meaning self.now.format.now) self.now.plan.now marks.now (ground segments.old words.old) }
+    {
+        for s in 0..(words.len() / 256).min(256) {
+            self.sweep_condemned(segments, words, marks, s as u8);
+        }
     }
 }
 

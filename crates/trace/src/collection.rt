@@ -6,7 +6,7 @@ ghost use Rattle.trace.specs.Remembering.{Remembers};
 ghost use Rattle.trace.specs.Keeping.{NewArenasSound, CollectionsKeep};
 ghost use Rattle.trace.specs.Lent.{held_in, StaysLent};
 
-use crate::collecting::{sweep_segments, value};
+use crate::collecting::value;
 use crate::heap::{Heap, Memory};
 use crate::rooting::{close_buffers, condemn};
 use crate::state::{Arena, Plan, Trace, Tracer};
@@ -40,30 +40,34 @@ fn tally(moved: u32, marks: &mut [u32], greys: &mut [u32]) -> u32
     value
 }
 
-// Traces what is condemned, sweeps it, and clears the boards.
-fn perform<F: Format>(
-    format: &F,
-    plan: &Plan,
-    arena: &mut Arena,
-    words: &mut [u32],
-    marks: &mut [u32],
-    greys: &mut [u32],
-) -> u32
-    ensures { outcome result (held arena.new words.new marks.new greys.new) ≡ performed (F.Format.meaning format.now) plan.now (held arena.old words.old marks.old greys.old) }
-{
-    arena.close_buffers(format, words);
-    let mut heap = Heap {
-        state: Trace::new(arena.segments),
-        words,
-        marks,
-        greys,
-    };
-    let tracer = Tracer { format, plan };
-    tracer.trace_roots(&mut heap, &arena.ambiguous, &mut arena.registers);
-    arena.segments = heap.state.segments;
-    let moved = heap.state.moved;
-    sweep_segments(format, plan, &mut arena.segments, words, marks);
-    tally(moved, marks, greys)
+impl<F: Format> Tracer<'_, F> {
+    // Traces what is condemned, sweeps it, and clears the boards.
+    fn perform(
+        &self,
+        arena: &mut Arena,
+        words: &mut [u32],
+        marks: &mut [u32],
+        greys: &mut [u32],
+    ) -> u32
+        ensures { outcome result (held arena.new words.new marks.new greys.new) ≡ performed (F.Format.meaning self.now.format.now) self.now.plan.now (held arena.old words.old marks.old greys.old) }
+    {
+        arena.close_buffers(self.format, words);
+        let mut heap = Heap {
+            state: Trace::new(arena.segments),
+            words,
+            marks,
+            greys,
+        };
+        self.trace_roots(&mut heap, &arena.ambiguous, &mut arena.registers);
+        let Trace {
+            segments,
+            moved,
+            ..
+        } = heap.state;
+        arena.segments = segments;
+        self.sweep_segments(&mut arena.segments, words, marks);
+        tally(moved, marks, greys)
+    }
 }
 
 impl Arena {
@@ -99,17 +103,11 @@ impl Arena {
         if !memory.fits(format) {
             return Err(Refusal::WrongLength);
         }
-        let plan = self.plan(pools);
+        let plan = &self.plan(pools);
         let zones = plan.condemned_zones(&self.segments);
         self.history.age(zones)?;
-        Ok(perform(
-            format,
-            &plan,
-            self,
-            memory.words,
-            memory.marks,
-            memory.greys,
-        ))
+        let tracer = Tracer { format, plan };
+        Ok(tracer.perform(self, memory.words, memory.marks, memory.greys))
     }
 
     // Collects a set of pools, bit p for pool p. The answer is 65,536 times the objects moved plus the

@@ -73,13 +73,7 @@ impl Plan {
         ensures which { result ≡ sought self.now len marks.now a }
         ensures fits { result ≡ true → (a < 65536) × (a / 256 * 256 + 256 ≤ len) }
     {
-        if a < 256 || a > 65535 {
-            return false;
-        }
-        if len < a / 256 * 256 + 256 {
-            return false;
-        }
-        self.condemned[a / 256] && !is_set(marks, a)
+        self.is_condemned(len, a) && !is_set(marks, a)
     }
 }
 

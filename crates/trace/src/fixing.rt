@@ -1,12 +1,11 @@
 // Fixing a reference.
 ghost use Rattle.std.specs.Prelude.{◌≡◌, ◌+◌, ◌<◌, ◌≤◌, length};
 ghost use Rattle.arena.specs.Buffers.{padded_part};
-ghost use Rattle.trace.specs.Traces.{rest, taken, copied_words, advanced, copied, fix_answer, fixed};
+ghost use Rattle.trace.specs.Traces.{rest, taken, moved_words, copied_words, advanced, copied, fix_answer, fixed};
 ghost use Rattle.trace.specs.Lent.{contents, HeapStaysLent};
 
 use crate::deciding::{Fate, rest_of};
 use crate::heap::Heap;
-use crate::parts::{copy_words, forward_at};
 use crate::state::{Trace, Tracer};
 use arena::pad_part;
 use format::Format;
@@ -18,13 +17,20 @@ pub(crate) fn pad_rest<F: Format>(format: &F, words: &mut [u32], at: u32)
     pad_part(format, words, at as usize, at as usize + rest_of(at));
 }
 
+fn copy_words(words: &mut [u32], a: usize, size: usize, to: usize)
+    requires { (a + size ≤ length words.old) × (to + size ≤ length words.old) }
+    ensures { words.new ≡ moved_words words.old a size to }
+{
+    words.copy_within(a..a + size, to);
+}
+
 // Copies an object's words, and marks the original as forwarded.
 fn move_words<F: Format>(format: &F, words: &mut [u32], a: usize, size: usize, to: u32)
     requires { (a + size ≤ length words.old) × (to + size ≤ length words.old) }
     ensures { words.new ≡ copied_words (F.Format.meaning format.now) words.old a size to }
 {
     copy_words(words, a, size, to as usize);
-    forward_at(format, words, a, size, to);
+    format.write_forward(&mut words[a..a + size], to);
 }
 
 impl Trace {

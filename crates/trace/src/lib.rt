@@ -6,7 +6,7 @@ mod collection;
 mod deciding;
 mod fixing;
 mod heap;
-mod parts;
+mod reading;
 mod rooting;
 mod scanning;
 mod state;

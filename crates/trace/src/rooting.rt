@@ -1,6 +1,6 @@
 // Where a collection begins: buffers, condemned segments, ambiguous words and registers.
 ghost use Rattle.std.specs.Prelude.{◌≡◌, ◌+◌, ◌*◌, ◌/◌, ◌<◌, ◌≤◌, true, length};
-ghost use Rattle.trace.specs.Collections.{all_buffers_closed, in_set, condemned_by, moves, zone_if, all_zones, nails, base_of, pointed_in, nail_of, nailed, nailed_by_all, rooted, root_fixed, all_roots};
+ghost use Rattle.trace.specs.Collections.{all_buffers_closed, in_set, condemned_by, moves, zone_if, all_zones, base_of, pointed_in, nail_of, nailed, nailed_by_all, rooted, root_fixed, all_roots};
 ghost use Rattle.trace.specs.Lent.{contents, HeapStaysLent};
 
 use crate::heap::Heap;
@@ -63,17 +63,6 @@ impl Plan {
         }
         zones
     }
-
-    // Whether an ambiguous word points into a condemned segment of the arena.
-    fn is_nail(&self, len: usize, word: usize) -> bool
-        ensures which { result ≡ nails self.now len word }
-        ensures fits { result ≡ true → (word < 65536) × (word / 256 * 256 + 256 ≤ len) }
-    {
-        if word < 256 || word > 65535 {
-            return false;
-        }
-        word / 256 * 256 + 256 <= len && self.condemned[word / 256]
-    }
 }
 
 fn object_base(head: Head, at: usize) -> Option<usize>
@@ -113,7 +102,7 @@ impl<F: Format> Tracer<'_, F> {
     fn nailed_object(&self, heap: &Heap<'_>, word: usize) -> Option<usize>
         ensures { result ≡ nail_of (F.Format.meaning self.now.format.now) self.now.plan.now (contents heap.now) word }
     {
-        if !self.plan.is_nail(heap.words.len(), word) {
+        if !self.plan.is_condemned(heap.words.len(), word) {
             return None;
         }
         let base = word / 256 * 256;

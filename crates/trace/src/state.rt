@@ -1,6 +1,6 @@
 // What a trace works on, besides the words and the boards.
-ghost use Rattle.std.specs.Prelude.{◌≡◌};
-ghost use Rattle.trace.specs.Collections.{class_in, class_of_owner};
+ghost use Rattle.std.specs.Prelude.{◌≡◌, ◌+◌, ◌*◌, ◌/◌, ◌<◌, ◌≤◌, true};
+ghost use Rattle.trace.specs.Collections.{class_in, class_of_owner, nails};
 ghost use Rattle.trace.specs.Collect.{new_arena, untraced};
 
 use arena::{Buffer, Owner, Segments};
@@ -51,6 +51,14 @@ impl Plan {
         ensures { result ≡ class_of_owner self.now.classes owner }
     {
         owner.and_then(|pool| self.class(pool))
+    }
+
+    // Whether an address lies in a condemned segment of the arena.
+    pub(crate) fn is_condemned(&self, len: usize, a: usize) -> bool
+        ensures which { result ≡ nails self.now len a }
+        ensures fits { result ≡ true → (a < 65536) × (a / 256 * 256 + 256 ≤ len) }
+    {
+        256 <= a && a <= 65535 && a / 256 * 256 + 256 <= len && self.condemned[a / 256]
     }
 }
 

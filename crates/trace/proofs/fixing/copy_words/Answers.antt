@@ -3,7 +3,7 @@ use lib.Seq.{paste}
 use Rattle.std.proofs.lemmas.List.{take-take, length-take-le, length-drop}
 use Rattle.std.proofs.lemmas.Slice.{put_mid-paste}
 use Rattle.format.specs.Laws.{part}
-use Rattle.trace.proofs.parts.copy_words.Goals as goal
+use Rattle.trace.proofs.fixing.copy_words.Goals as goal
 
 pub returns : goal.returns
 returns c =
