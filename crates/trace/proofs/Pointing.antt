@@ -3,13 +3,13 @@ use Rattle.std.proofs.Common.{◌≡◌, ℕ, zero, suc, ◌-◌, ◌<◌, ◌�
 use Rattle.std.proofs.lemmas.Bool.{cases_lt, cond-true, cond-false, lt-ltb, le-ltb}
 use Rattle.format.specs.Meaning.{Meaning, seen}
 use Rattle.format.specs.Laws.{part}
-use Rattle.trace.specs.Traces.{stood, end_of}
+use Rattle.trace.specs.Traces.{stood}
 use Rattle.trace.specs.Collections.{base_of, pointed, pointed_in}
 use Rattle.trace.proofs.Walks.{stood_ends}
 
 module _ (m : Meaning) (ws ms : List ℕ) (limit w : ℕ) where
   abbrev end_from : ℕ → ℕ
-  end_from at = end_of (stood m ws ms at limit)
+  end_from at = (stood m ws ms at limit).end
 
   abbrev here : ℕ → Option ℕ
   here at = base_of (seen m (part at (limit - at) ws)) at

@@ -15,7 +15,7 @@ use Rattle.trace.specs.declared.state.Class.{Class}
 use Rattle.trace.specs.declared.state.Class.TheVariants.{Amc, Ams, Lo}
 use Rattle.trace.specs.declared.state.Plan.{Plan}
 use Rattle.trace.specs.declared.state.Trace.{Trace}
-use Rattle.trace.specs.Traces.{limit_of, condemns, rest, target_of, Heap, heap, marked, greyed, fixed, fix_answer, scanned, rounded, stood, end_of, walked, swept_words, swept_segments}
+use Rattle.trace.specs.Traces.{limit_of, condemns, rest, target_of, Heap, heap, marked, greyed, fixed, fix_answer, scanned, rounded, stood, walked, swept_words, swept_segments}
 
 -- ---- closing all buffers
 
@@ -86,7 +86,7 @@ base_of (Padding k) at = None
 abbrev pub pointed : Meaning → List ℕ → List ℕ → ℕ → ℕ → ℕ → ℕ → Option ℕ
 pointed m ws ms limit w zero at = None
 pointed m ws ms limit w (suc k) at =
-    cond (nat_lt at limit) (cond (nat_lt w (end_of (stood m ws ms at limit))) (base_of (seen m (part at (limit - at) ws)) at) (pointed m ws ms limit w k (end_of (stood m ws ms at limit)))) None
+    cond (nat_lt at limit) (cond (nat_lt w ((stood m ws ms at limit).end)) (base_of (seen m (part at (limit - at) ws)) at) (pointed m ws ms limit w k ((stood m ws ms at limit).end))) None
 
 abbrev pub pointed_in : Meaning → List ℕ → List ℕ → ℕ → ℕ → ℕ → Option ℕ
 pointed_in m ws ms base limit w = pointed m ws ms limit w (limit - base) base
@@ -138,7 +138,7 @@ all_roots m y x = roots_fixed m y x 16
 -- ---- segments that were in use and are not condemned
 
 abbrev pub end_at : Meaning → ℕ → Heap → ℕ → ℕ
-end_at m limit v at = end_of (stood m v.words v.marks at limit)
+end_at m limit v at = (stood m v.words v.marks at limit).end
 
 -- the things of a row, by address
 abbrev pub row_scanned : Meaning → Plan → Heap → ℕ → ℕ → Heap

@@ -6,7 +6,7 @@ ghost use Rattle.trace.specs.Lent.{contents, HeapStaysLent};
 use crate::fixing::pad_rest;
 use crate::heap::Heap;
 use crate::state::{Class, Plan, Trace, Tracer};
-use crate::sweeping::{end_of, stand_at, sweep};
+use crate::sweeping::{stand_at, sweep};
 use arena::{Owner, Segments, count_ones};
 use format::Format;
 
@@ -26,7 +26,7 @@ impl<F: Format> Tracer<'_, F> {
         ensures end { result ≡ end_at (F.Format.meaning self.now.format.now) limit (contents heap.now) at }
         ensures fits { (at < result) × (result ≤ limit) }
     {
-        end_of(stand_at(self.format, heap.words, heap.marks, at, limit))
+        stand_at(self.format, heap.words, heap.marks, at, limit).end
     }
 
     // Scans the things of a row, by address.

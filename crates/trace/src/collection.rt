@@ -8,9 +8,9 @@ ghost use Rattle.trace.specs.Lent.{held_in, StaysLent};
 
 use crate::collecting::value;
 use crate::heap::{Heap, Memory};
-use crate::rooting::{close_buffers, condemn};
+use crate::rooting::condemn;
 use crate::state::{Arena, Plan, Trace, Tracer};
-use arena::{Buffer, clear_all};
+use arena::{Buffer, clear_all, pad_part};
 use format::{Format, Refusal};
 
 impl Memory<'_> {
@@ -72,11 +72,14 @@ impl<F: Format> Tracer<'_, F> {
 
 impl Arena {
     // Closes the buffers of all allocation points: there are none then.
+    #[tactic(auto, using(crate::proofs::Loops::next_buffer), unfolding(crate::specs::Collections::all_buffers_closed))]
     fn close_buffers<F: Format>(&mut self, format: &F, words: &mut [u32])
         ensures words { words.new ≡ all_buffers_closed (F.Format.meaning format.now) self.old.buffers words.old }
         ensures arena { self.new ≡ unbuffered self.old }
     {
-        close_buffers(format, words, &self.buffers);
+        for buffer in &self.buffers {
+            pad_part(format, words, buffer.init, buffer.limit);
+        }
         self.buffers = [Buffer::default(); 8];
     }
 

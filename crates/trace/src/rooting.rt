@@ -1,24 +1,14 @@
 // Where a collection begins: buffers, condemned segments, ambiguous words and registers.
 ghost use Rattle.std.specs.Prelude.{◌≡◌, ◌+◌, ◌*◌, ◌/◌, ◌<◌, ◌≤◌, true, length};
-ghost use Rattle.trace.specs.Collections.{all_buffers_closed, in_set, condemned_by, moves, zone_if, all_zones, base_of, pointed_in, nail_of, nailed, nailed_by_all, rooted, root_fixed, all_roots};
+ghost use Rattle.trace.specs.Collections.{in_set, condemned_by, moves, zone_if, all_zones, base_of, pointed_in, nail_of, nailed, nailed_by_all, rooted, root_fixed, all_roots};
 ghost use Rattle.trace.specs.Lent.{contents, HeapStaysLent};
 
 use crate::heap::Heap;
 use crate::state::{Class, Plan, Tracer};
-use crate::sweeping::{end_of, stand_at};
-use arena::{Buffer, Owner, Segments, pad_part};
+use crate::sweeping::{Stand, stand_at};
+use arena::{Owner, Segments};
 use format::{Format, Head, look};
 use location::zone_set;
-
-// Closes the buffers of all allocation points.
-#[tactic(auto, using(crate::proofs::Loops::next_buffer), unfolding(crate::specs::Collections::all_buffers_closed))]
-pub(crate) fn close_buffers<F: Format>(format: &F, words: &mut [u32], buffers: &[Buffer; 8])
-    ensures { words.new ≡ all_buffers_closed (F.Format.meaning format.now) buffers.now words.old }
-{
-    for buffer in buffers {
-        pad_part(format, words, buffer.init, buffer.limit);
-    }
-}
 
 // Whether the owner of a segment is a pool of the set.
 fn is_in_set(pools: u8, owner: Owner) -> bool
@@ -88,7 +78,7 @@ fn pointed_object<F: Format>(
 {
     let mut at = base;
     while at < limit {
-        let end = end_of(stand_at(format, words, marks, at, limit));
+        let Stand { end, .. } = stand_at(format, words, marks, at, limit);
         if word < end {
             return object_base(look(format, &words[at..limit]), at);
         }

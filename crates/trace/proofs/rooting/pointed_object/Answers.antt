@@ -1,5 +1,5 @@
 use Rattle.std.proofs.Common.{sym, refl, ap, ◌∙◌, arith}
-use Rattle.trace.specs.Traces.{end_of}
+use Rattle.trace.specs.declared.sweeping.Stand.{Stand}
 use Rattle.trace.specs.Collections.{base_of, pointed_in}
 use Rattle.trace.proofs.Pointing.{points_on, points_here, points_none}
 use Rattle.trace.proofs.rooting.pointed_object.Goals as goal
@@ -9,18 +9,18 @@ loop-at-init g c = (refl, c.requires.0)
 
 pub returns-then-word-end : goal.returns-then-word-end
 returns-then-word-end g c =
-    let e = c.end_of-end.ensures ∙ ap end_of c.stand_at.ensures.which in
+    let e = ap (λ (t : Stand). t.end) c.stand_at-end.ensures.which in
     c.object_base.ensures ∙ ap (λ h. base_of h c.loop-at.at) c.look.ensures
     ∙ sym (points_here (g.F.Format.meaning c.args.format.now) c.args.words.now c.args.marks.now c.args.limit c.args.word c.loop-at.at c.loop-at-test.true (omega (arith, c.if-word-end.true, e)))
     ∙ c.loop-at.invariant.0
 
 pub loop-at-preserved : goal.loop-at-preserved
 loop-at-preserved g c =
-    let e = c.end_of-end.ensures ∙ ap end_of c.stand_at.ensures.which in (
+    let e = ap (λ (t : Stand). t.end) c.stand_at-end.ensures.which in (
       ap (λ z. pointed_in (g.F.Format.meaning c.args.format.now) c.args.words.now c.args.marks.now z c.args.limit c.args.word) e
           ∙ sym (points_on (g.F.Format.meaning c.args.format.now) c.args.words.now c.args.marks.now c.args.limit c.args.word c.loop-at.at c.loop-at-test.true (omega (arith, c.if-word-end.false, e)))
           ∙ c.loop-at.invariant.0,
-      omega (arith, c.end_of-end.ensures, c.stand_at.ensures.fits),
+      omega (arith, c.stand_at-end.ensures.fits),
     )
 
 pub returns : goal.returns
