@@ -1,12 +1,12 @@
 // What follows the roots: the segments that are not condemned, the targets' rests, and the sweep.
-ghost use Rattle.std.specs.Prelude.{◌≡◌, ◌+◌, ◌*◌, ◌<◌, ◌≤◌, length};
-ghost use Rattle.trace.specs.Collections.{end_at, row_scanned, refers, segment_scanned, all_scanned, all_targets_closed, ground, segment_swept, all_swept, value_of};
+ghost use Rattle.std.specs.Prelude.{◌≡◌, ◌+◌, ◌*◌, ◌≤◌, length};
+ghost use Rattle.trace.specs.Collections.{row_scanned, refers, segment_scanned, all_scanned, all_targets_closed, ground, segment_swept, all_swept, value_of};
 ghost use Rattle.trace.specs.Lent.{contents, HeapStaysLent};
 
 use crate::fixing::pad_rest;
 use crate::heap::Heap;
 use crate::state::{Class, Plan, Trace, Tracer};
-use crate::sweeping::{stand_at, sweep};
+use crate::sweeping::sweep;
 use arena::{Owner, Segments, count_ones};
 use format::Format;
 
@@ -20,15 +20,6 @@ impl Plan {
 }
 
 impl<F: Format> Tracer<'_, F> {
-    // Where the thing at a place of a row ends.
-    fn end_at(&self, heap: &Heap<'_>, at: usize, limit: usize) -> usize
-        requires { (at < limit) × (limit ≤ length heap.now.words.now) }
-        ensures end { result ≡ end_at (F.Format.meaning self.now.format.now) limit (contents heap.now) at }
-        ensures fits { (at < result) × (result ≤ limit) }
-    {
-        stand_at(self.format, heap.words, heap.marks, at, limit).end
-    }
-
     // Scans the things of a row, by address.
     fn scan_row(&self, heap: &mut Heap<'_>, base: usize, limit: usize)
         requires { (base ≤ limit) × (limit ≤ length heap.old.words.now) }

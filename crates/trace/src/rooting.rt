@@ -5,7 +5,6 @@ ghost use Rattle.trace.specs.Lent.{contents, HeapStaysLent};
 
 use crate::heap::Heap;
 use crate::state::{Class, Plan, Tracer};
-use crate::sweeping::{Stand, stand_at};
 use arena::{Owner, Segments};
 use format::{Format, Head, look};
 use location::zone_set;
@@ -58,36 +57,32 @@ impl Plan {
 fn object_base(head: Head, at: usize) -> Option<usize>
     ensures { result ≡ base_of head at }
 {
-    match head {
-        Head::Object(_) => Some(at),
-        Head::Nothing | Head::Forwarded { .. } | Head::Padding { .. } => None,
-    }
-}
-
-// The base of the object of a row into which a word points.
-fn pointed_object<F: Format>(
-    format: &F,
-    words: &[u32],
-    marks: &[u32],
-    base: usize,
-    limit: usize,
-    word: usize,
-) -> Option<usize>
-    requires { (base ≤ limit) × (limit ≤ length words.now) }
-    ensures { result ≡ pointed_in (F.Format.meaning format.now) words.now marks.now base limit word }
-{
-    let mut at = base;
-    while at < limit {
-        let Stand { end, .. } = stand_at(format, words, marks, at, limit);
-        if word < end {
-            return object_base(look(format, &words[at..limit]), at);
-        }
-        at = end;
-    }
-    None
+    matches!(head, Head::Object(_)).then_some(at)
 }
 
 impl<F: Format> Tracer<'_, F> {
+    // The base of the object of a row into which a word points.
+    fn pointed_object(
+        &self,
+        heap: &Heap<'_>,
+        base: usize,
+        limit: usize,
+        word: usize,
+    ) -> Option<usize>
+        requires { (base ≤ limit) × (limit ≤ length heap.now.words.now) }
+        ensures { result ≡ pointed_in (F.Format.meaning self.now.format.now) heap.now.words.now heap.now.marks.now base limit word }
+    {
+        let mut at = base;
+        while at < limit {
+            let end = self.end_at(heap, at, limit);
+            if word < end {
+                return object_base(look(self.format, &heap.words[at..limit]), at);
+            }
+            at = end;
+        }
+        None
+    }
+
     // The base of the object of a condemned segment into which an ambiguous word points.
     fn nailed_object(&self, heap: &Heap<'_>, word: usize) -> Option<usize>
         ensures { result ≡ nail_of (F.Format.meaning self.now.format.now) self.now.plan.now (contents heap.now) word }
@@ -96,7 +91,7 @@ impl<F: Format> Tracer<'_, F> {
             return None;
         }
         let base = word / 256 * 256;
-        pointed_object(self.format, heap.words, heap.marks, base, base + 256, word)
+        self.pointed_object(heap, base, base + 256, word)
     }
 
     // Marks the object into which a word points, and makes it grey.
