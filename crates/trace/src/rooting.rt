@@ -1,6 +1,6 @@
 // Where a collection begins: buffers, condemned segments, ambiguous words and registers.
 ghost use Rattle.std.specs.Prelude.{◌≡◌, ◌+◌, ◌*◌, ◌/◌, ◌<◌, ◌≤◌, true, length};
-ghost use Rattle.trace.specs.Collections.{in_set, condemned_by, moves, zone_if, all_zones, base_of, pointed_in, nail_of, nailed, nailed_by_all, rooted, root_fixed, all_roots};
+ghost use Rattle.trace.specs.Collections.{in_set, condemned_by, moves, zone_if, all_zones, base_of, pointed_in, nail_of, nailed, nailed_by_all, rooted, all_roots};
 ghost use Rattle.trace.specs.Lent.{contents, HeapStaysLent};
 
 use crate::heap::Heap;
@@ -116,22 +116,14 @@ impl<F: Format> Tracer<'_, F> {
         }
     }
 
-    fn fix_register(&self, heap: &mut Heap<'_>, registers: &mut [u32; 16], i: usize)
-        requires { i < 16 }
-        ensures after { rooted registers.new (contents heap.new) ≡ root_fixed (F.Format.meaning self.now.format.now) self.now.plan.now (rooted registers.old (contents heap.old)) i }
-        ensures lent { HeapStaysLent heap.old heap.new }
-    {
-        registers[i] = self.fix(heap, registers[i]);
-    }
-
     // Fixes the registers, ascending.
     #[tactic(auto, using(crate::proofs::Loops::next_root), unfolding(crate::specs::Collections::all_roots))]
     pub(crate) fn fix_registers(&self, heap: &mut Heap<'_>, registers: &mut [u32; 16])
         ensures after { rooted registers.new (contents heap.new) ≡ all_roots (F.Format.meaning self.now.format.now) self.now.plan.now (rooted registers.old (contents heap.old)) }
         ensures lent { HeapStaysLent heap.old heap.new }
     {
-        for i in 0..16 {
-            self.fix_register(heap, registers, i);
+        for register in registers.iter_mut() {
+            *register = self.fix(heap, *register);
         }
     }
 }

@@ -22,7 +22,8 @@ pub struct Plan {
 }
 
 // A trace of every object format: its format, and the plan that it keeps to.
-#[derive(Clone, Copy)]
+#[derive(Drop)]
+#[derive_where(Clone, Copy)]
 pub struct Tracer<'a, F> {
     pub format: &'a F,
     pub plan: &'a Plan,
