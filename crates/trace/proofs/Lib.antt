@@ -5,7 +5,6 @@ mod Pointing
 mod Tables
 mod Loops
 mod Chain
-mod Performing
 mod Cells
 mod Facts
 mod Marking

@@ -39,6 +39,3 @@ module _ (m : Meaning) (ws ms : List ℕ) (limit w : ℕ) where
   points_on at l h =
       let e = stood_ends m ws ms at limit l in
       unrolled at l ∙ cond-false _ _ _ (le-ltb w (end_from at) h) ∙ enough (limit - at - 1) (limit - end_from at) (end_from at) (omega (arith, e)) (omega arith)
-
-  pub points_none : (at : ℕ) → limit ≤ at → pointed_in m ws ms at limit w ≡ None
-  points_none at l = let z : limit - at ≡ 0 = omega arith in ap (λ k. pointed m ws ms limit w k at) z

@@ -1,10 +1,7 @@
-use Rattle.std.proofs.Common.{sym, refl, ap, ◌∙◌, arith}
+use Rattle.std.proofs.Common.{sym, ap, ◌∙◌, arith}
 use Rattle.trace.specs.Collections.{base_of, pointed_in}
-use Rattle.trace.proofs.Pointing.{points_on, points_here, points_none}
+use Rattle.trace.proofs.Pointing.{points_on, points_here}
 use Rattle.trace.proofs.state.Tracer.pointed_object.Goals as goal
-
-pub loop-at-init : goal.loop-at-init
-loop-at-init g c = (refl, c.requires.0)
 
 pub returns-then-word-end : goal.returns-then-word-end
 returns-then-word-end g c =
@@ -21,8 +18,3 @@ loop-at-preserved g c =
           ∙ c.loop-at.invariant.0,
       omega (arith, c.end_at-end.ensures.fits),
     )
-
-pub returns : goal.returns
-returns g c =
-    sym (points_none (g.F.Format.meaning c.args.self.now.format.now) c.args.heap.now.words.now c.args.heap.now.marks.now c.args.limit c.args.word c.loop-at.at c.loop-at-test.false)
-    ∙ c.loop-at.invariant.0

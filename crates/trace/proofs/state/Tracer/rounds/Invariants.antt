@@ -1,4 +1,4 @@
-use Rattle.std.proofs.Common.{◌≡◌, ◌-◌, ◌≤◌}
+use Rattle.std.proofs.Common.{◌≡◌, ◌-◌}
 use Rattle.trace.specs.Traces.{rounded}
 use Rattle.trace.specs.Lent.{contents, HeapStaysLent}
 use Rattle.trace.proofs.state.Tracer.rounds.Given as goal

@@ -1,4 +1,4 @@
-use Rattle.std.proofs.Common.{◌≡◌, ℕ, ◌-◌, ap, ◌∙◌, arith, rules}
+use Rattle.std.proofs.Common.{ℕ, ◌-◌, ap, ◌∙◌, arith, rules}
 use Rattle.trace.specs.Traces.{Heap, scanned, walked}
 use Rattle.trace.specs.Collections.{end_at}
 use Rattle.trace.specs.Lent.{contents}
