@@ -36,9 +36,20 @@ macro_rules! in_each_format {
 
 pub(crate) use in_each_format;
 
-// ---- building
+pub fn padding(size: usize) -> Head {
+    Head::Padding { size }
+}
+
+// Every word is the same.
+pub fn check_all(rt: &impl Abort, name: &str, words: &[u32], all: u32) {
+    for &word in words {
+        assert_eq!(rt; word, all, "{name}");
+    }
+}
 
 impl<'a, R: Abort, F: Format, const N: usize> Store<'a, R, F, N> {
+    // ---- building
+
     // Every segment is free, and every word is 0.
     pub fn new(rt: &'a R, format: &'a F) -> Store<'a, R, F, N> {
         Store {
@@ -104,18 +115,9 @@ impl<'a, R: Abort, F: Format, const N: usize> Store<'a, R, F, N> {
             base + 256,
         );
     }
-}
 
-// ---- collecting
+    // ---- collecting
 
-// Every word is the same.
-pub fn check_all(rt: &impl Abort, name: &str, words: &[u32], all: u32) {
-    for &word in words {
-        assert_eq!(rt; word, all, "{name}");
-    }
-}
-
-impl<R: Abort, F: Format, const N: usize> Store<'_, R, F, N> {
     // Collects over the first words alone.
     pub fn collect_part(
         &mut self,
@@ -146,19 +148,12 @@ impl<R: Abort, F: Format, const N: usize> Store<'_, R, F, N> {
     }
 
     // What a collection over clear boards answers.
-    pub fn check_collection(&mut self, pools: u8, value: u32) -> Result<(), Fail> {
-        assert_eq!(self.rt; self.collect_over(0, pools)?, value);
-        Ok(())
+    pub fn check_collection(&mut self, pools: u8, value: u32) {
+        assert_eq!(self.rt; self.collect_over(0, pools), Ok(value));
     }
-}
 
-// ---- looking
+    // ---- looking
 
-pub fn padding(size: usize) -> Head {
-    Head::Padding { size }
-}
-
-impl<R: Abort, F: Format, const N: usize> Store<'_, R, F, N> {
     pub fn object(&self, references: u8, n: u8) -> Head {
         Head::Object(self.shape(references, n))
     }

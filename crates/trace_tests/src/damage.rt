@@ -36,6 +36,24 @@ impl<R: Abort, F: Format> Store<'_, R, F, 1280> {
         assert_eq!(self.rt; self.arena.buffers, buffers, "{lengths:?}");
         assert_eq!(self.rt; self.arena.history, history, "{lengths:?}");
     }
+
+    // All of memory holds one word, and so does each board; a pool of each class has a segment.
+    fn check_damaged(mut self, word: u32, stray: u32) {
+        self.words.fill(word);
+        let arena = &mut self.arena;
+        arena.segments.give(1, 0);
+        arena.segments.give(2, 2);
+        arena.segments.give(3, 3);
+        arena.registers = [
+            256, 257, 300, 511, 512, 600, 768, 900, 1024, 1279, 1280, 65_535, 65_536, 255, 1, word,
+        ];
+        arena.ambiguous = [256, 400, 511, 512, 768, 1023, 1280, word];
+        assert_eq!(self.rt;
+            self.collect_over(stray, 255).err(),
+            None,
+            "word {word:#x}, boards {stray:#x}"
+        );
+    }
 }
 
 const WRONG: [Lengths; 8] = [
@@ -49,36 +67,19 @@ const WRONG: [Lengths; 8] = [
     (1024, 32, 33),
 ];
 
-fn check_wrong_lengths(mut store: Store<impl Abort, impl Format, 1280>) -> Result<(), Fail> {
+fn check_wrong_lengths(store: Store<impl Abort, impl Format, 1280>) -> Result<(), Fail> {
     assert_eq!(store.rt; store.arena.history.epoch(), 0);
     for lengths in WRONG {
+        let mut store = store;
         store.check_refused(lengths, 7);
     }
     Ok(())
 }
 
-// All of memory holds one word, and so does each board; a pool of each class has a segment.
-fn check_damaged(mut store: Store<impl Abort, impl Format, 1280>, word: u32, stray: u32) {
-    store.words.fill(word);
-    let arena = &mut store.arena;
-    arena.segments.give(1, 0);
-    arena.segments.give(2, 2);
-    arena.segments.give(3, 3);
-    arena.registers = [
-        256, 257, 300, 511, 512, 600, 768, 900, 1024, 1279, 1280, 65_535, 65_536, 255, 1, word,
-    ];
-    arena.ambiguous = [256, 400, 511, 512, 768, 1023, 1280, word];
-    assert_eq!(store.rt;
-        store.collect_over(stray, 255).err(),
-        None,
-        "word {word:#x}, boards {stray:#x}"
-    );
-}
-
 fn check_all_damaged(store: Store<impl Abort, impl Format, 1280>, rows: &[u32]) {
     for &word in rows {
         for stray in [0, 0x8000_0401, 0xffff_ffff] {
-            check_damaged(store, word, stray);
+            store.check_damaged(word, stray);
         }
     }
 }

@@ -19,7 +19,7 @@ impl<R: Abort, F: Format, const N: usize> Store<'_, R, F, N> {
 fn check_last_word_nails(mut store: Store<impl Abort, impl Format, 1024>) -> Result<(), Fail> {
     store.build_one()?;
     store.arena.ambiguous[7] = 258;
-    store.check_collection(1, 1)?;
+    store.check_collection(1, 1);
     store.check_registers(&[256]);
     store.check_owner(1, Some(0));
     store.check_row(1, &[store.object(0, 2), padding(253)]);
@@ -30,7 +30,7 @@ fn check_last_word_nails(mut store: Store<impl Abort, impl Format, 1024>) -> Res
 fn check_next_word_does_not(mut store: Store<impl Abort, impl Format, 1024>) -> Result<(), Fail> {
     store.build_one()?;
     store.arena.ambiguous[7] = 259;
-    store.check_collection(1, 65_536)?;
+    store.check_collection(1, 65_536);
     store.check_registers(&[512]);
     store.check_free(1);
     store.check_owner(2, Some(0));
@@ -52,7 +52,7 @@ fn check_no_room(mut store: Store<impl Abort, impl Format, 1024>) -> Result<(), 
     for segment in 1..4 {
         store.give(segment, 0, 256);
     }
-    store.check_collection(1, 6)?;
+    store.check_collection(1, 6);
     store.check_registers(&[256, 384, 512, 640, 768, 896, 0]);
     for segment in 1..4 {
         store.check_row(segment, &[store.object(0, 127), store.object(0, 127)]);
@@ -65,7 +65,7 @@ fn check_some_room(mut store: Store<impl Abort, impl Format, 1024>) -> Result<()
     store.put_in_registers(&[(256, 128), (384, 100), (512, 100), (612, 20)])?;
     store.give(1, 0, 228);
     store.give(2, 0, 120);
-    store.check_collection(1, 3 * 65_536 + 1)?;
+    store.check_collection(1, 3 * 65_536 + 1);
     store.check_registers(&[768, 896, 512, 996, 0]);
     store.check_free(1);
     store.check_row(2, &[store.object(0, 99), padding(156)]);
@@ -92,7 +92,7 @@ fn check_some_pools(mut store: Store<impl Abort, impl Format, 2048>) -> Result<(
     store.give(2, 1, 3);
     store.give(3, 2, 3);
     store.give(4, 3, 2);
-    store.check_collection(1, 65_536)?;
+    store.check_collection(1, 65_536);
     store.check_free(1);
     store.check_row(2, &[store.object(1, 2), padding(253)]);
     store.check_row(3, &[store.object(2, 2), padding(253)]);
@@ -125,7 +125,7 @@ fn check_buffers(mut store: Store<impl Abort, impl Format, 2048>) -> Result<(), 
         limit: 600,
     };
     store.arena.ambiguous[0] = 260;
-    store.check_collection(1, 65_536)?;
+    store.check_collection(1, 65_536);
     store.check_registers(&[768]);
     store.check_free(1);
     store.check_row(
@@ -152,7 +152,7 @@ fn check_history(mut store: Store<impl Abort, impl Format, 1024>) -> Result<(), 
     moved.enter(256);
     let mut kept = Dependency::reset(&store.arena.history);
     kept.enter(512);
-    store.check_collection(5, 65_537)?;
+    store.check_collection(5, 65_537);
     let history = &store.arena.history;
     assert_eq!(store.rt; moved.stale(history), true);
     assert_eq!(store.rt; kept.stale(history), false);
