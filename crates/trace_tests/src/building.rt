@@ -26,7 +26,7 @@ pub struct Store<'a, R, F, const N: usize> {
     pub words: [u32; N],
 }
 
-// Runs a check on a new store of each format.
+// Runs a check on a new store of each format: a macro, since no closure is generic over the format.
 macro_rules! in_each_format {
     ($rt:expr, $check:path) => {{
         $check($crate::building::Store::new($rt, &formats::Counted))?;
