@@ -1,12 +1,10 @@
 -- What a trace keeps, relative to where it began.
-use Rattle.std.proofs.Common.{◌≡◌, ℕ, ◌+◌, ◌-◌, ◌*◌, ◌/◌, ◌%◌, ◌<◌, ◌≤◌, Bool, true, false, not, ◌||◌, eqb, ◌≢◌, ◌⊎◌, List, [], length, get_or}
+use Rattle.std.proofs.Common.{◌≡◌, ℕ, ◌+◌, ◌-◌, ◌*◌, ◌/◌, ◌%◌, ◌<◌, ◌≤◌, Bool, true, false, not, ◌||◌, eqb, ◌≢◌, ◌⊎◌, List, [], length, get_or, Some, None}
 use Rattle.format.specs.declared.things.Slot.{Slot}
 use Rattle.format.specs.declared.things.Slot.TheVariants.{Reference, Number}
 use Rattle.format.specs.Meaning.{Meaning, Thing, nothing, object, forwarded, padding, thing_at, span}
-use Rattle.arena.specs.declared.segments.Owner.{Owner}
-use Rattle.arena.specs.declared.segments.Owner.TheVariants.{Free, Pool}
 use Rattle.arena.specs.Boards.{bit}
-use Rattle.arena.specs.Segments.{owner_of}
+use Rattle.arena.specs.Segments.{Owner, owner_of}
 use Rattle.trace.specs.declared.state.Plan.{Plan}
 use Rattle.trace.specs.Traces.{condemns, class_of, target_of, Heap}
 use Rattle.trace.specs.Collections.{is_lo, moves}
@@ -143,7 +141,7 @@ Clean S v a x = AllFit (Settled S v) (slots0 S a) (slots_of x)
 
 -- the words that the trace may still take: those of free segments, and those left in a target
 pub data Room (v : Heap) (w : ℕ) : Type 0 where
-  unused : 256 ≤ w → w < length v.words → owner v (w / 256) ≡ Free → Room v w
+  unused : 256 ≤ w → w < length v.words → owner v (w / 256) ≡ None → Room v w
   ahead : (p : ℕ) → target v p ≤ w → w < target v p / 256 * 256 + 256 → 1 ≤ target v p % 256 → Room v w
 
 -- what is known of a target, of free segments and of the boards
@@ -151,9 +149,9 @@ pub record Ready (S : Start) (v : Heap) : Type 0 where
   pub whole : length v.words % 256 ≡ 0
   pub few : length v.words ≤ 65536
   pub owned : (p : ℕ) → 1 ≤ target v p % 256
-      → (owner v (target v p / 256) ≡ Pool p) × (target v p / 256 * 256 + 256 ≤ length v.words) × (256 ≤ target v p)
+      → (owner v (target v p / 256) ≡ Some p) × (target v p / 256 * 256 + 256 ≤ length v.words) × (256 ≤ target v p)
       × (get_or S.plan.condemned (target v p / 256) false ≡ false)
-  pub unused : (s : ℕ) → owner v s ≡ Free → get_or S.plan.condemned s false ≡ false
+  pub unused : (s : ℕ) → owner v s ≡ None → get_or S.plan.condemned s false ≡ false
   pub marks : 32 * length v.marks ≡ length v.words
   pub greys : 32 * length v.greys ≡ length v.words
   pub owners : length v.state.segments.owners ≡ 256
@@ -165,7 +163,7 @@ pub record Copied (S : Start) (v : Heap) (a b : ℕ) : Type 0 where
   pub safe : condemns S.plan b ≡ false
   pub left : stays S v a ≡ false
   pub seg : b % 256 + size0 S a ≤ 256
-  pub fresh : owner0 S (b / 256) ≡ Free
+  pub fresh : owner0 S (b / 256) ≡ None
   pub home : owner v (b / 256) ≡ owner0 S (a / 256)
   pub mover : moves S.plan.classes (owner0 S (a / 256)) ≡ true
 
@@ -189,12 +187,12 @@ pub record Front (S : Start) (v : Heap) (s p : ℕ) : Type 0 where
       ⊎ ((1 ≤ target v p % 256 → target v p / 256 ≡ s → ⊥) × ((front ≡ s * 256 + 256) ⊎ (rd S v.words front ≡ padding (s * 256 + 256 - front))))
 
 pub record Fill (S : Start) (v : Heap) : Type 0 where
-  pub fronts : (s p : ℕ) → owner0 S s ≡ Free → owner v s ≡ Pool p → Front S v s p
-  pub aims : (p : ℕ) → 1 ≤ target v p % 256 → owner0 S (target v p / 256) ≡ Free
-  pub empty : (s : ℕ) → owner v s ≡ Free → owner0 S s ≡ Free
-  pub pools : (s p : ℕ) → owner v s ≡ Pool p → (p < 8) × (s * 256 + 256 ≤ length v.words)
-  pub low : owner v 0 ≡ Free
-  pub plain : (s p : ℕ) → owner0 S s ≡ Free → owner v s ≡ Pool p → leafy S p ≡ false
+  pub fronts : (s p : ℕ) → owner0 S s ≡ None → owner v s ≡ Some p → Front S v s p
+  pub aims : (p : ℕ) → 1 ≤ target v p % 256 → owner0 S (target v p / 256) ≡ None
+  pub empty : (s : ℕ) → owner v s ≡ None → owner0 S s ≡ None
+  pub pools : (s p : ℕ) → owner v s ≡ Some p → (p < 8) × (s * 256 + 256 ≤ length v.words)
+  pub low : owner v 0 ≡ None
+  pub plain : (s p : ℕ) → owner0 S s ≡ None → owner v s ≡ Some p → leafy S p ≡ false
 
 abbrev pub Null : ℕ → ℕ → Type 0
 Null r q = (r ≡ 0) × (q ≡ 0)
@@ -202,8 +200,8 @@ Null r q = (r ≡ 0) × (q ≡ 0)
 -- the pool of an object
 pub record Owned (S : Start) (v : Heap) (a : ℕ) : Type 0 where
   pub pool : ℕ
-  pub is : owner v (a / 256) ≡ Pool pool
-  pub was : owner0 S (a / 256) ≡ Pool pool
+  pub is : owner v (a / 256) ≡ Some pool
+  pub was : owner0 S (a / 256) ≡ Some pool
   pub leaf : leafy S pool ≡ true → AllFit Null (slots0 S a) (slots0 S a)
 
 -- p is where some object of the start will be
@@ -229,7 +227,7 @@ pub record Inv (S : Start) (Todo : ℕ → Type 0) (v : Heap) : Type 0 where
   pub bound : (p : ℕ) → grey v p ≡ true → v.state.low ≤ p
   pub fill : Fill S v
   pub marked : (p : ℕ) → marked v p ≡ true → Obj S p
-  pub blank : (w : ℕ) → owner v (w / 256) ≡ Free → get_or v.words w 0 ≡ 0
+  pub blank : (w : ℕ) → owner v (w / 256) ≡ None → get_or v.words w 0 ≡ 0
   pub clean : (a p : ℕ) → Obj S a → Final S v a p → ((grey v p ≡ true) ⊎ Todo p) ⊎ Clean S v a (rd S v.words p)
 
 -- what was settled stays so
@@ -250,5 +248,5 @@ pub record Sound (S : Start) : Type 0 where
   pub apart : (a c : ℕ) → Std S a → Std S c → (a ≡ c) ⊎ Apart a (size0 S a) c (size0 S c)
   pub seg : (a : ℕ) → Std S a → a % 256 + size0 S a ≤ 256
   pub inside : (a : ℕ) → Std S a → a / 256 * 256 + 256 ≤ length S.space.words
-  pub used : (a : ℕ) → Std S a → owner0 S (a / 256) ≢ Free
+  pub used : (a : ℕ) → Std S a → owner0 S (a / 256) ≢ None
   pub top : length S.space.words ≤ S.meaning.greatest_address + 1

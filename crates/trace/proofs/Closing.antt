@@ -1,11 +1,10 @@
 -- The targets' rests padded.
-use Rattle.std.proofs.Common.{◌≡◌, ℕ, zero, suc, ◌+◌, ◌-◌, ◌*◌, ◌/◌, ◌%◌, ◌<◌, ◌≤◌, false, ◌⊎◌, List, length, get_or, set, sym, refl, ap, ◌∙◌, subst, inl, inr, arith, length-set}
+use Rattle.std.proofs.Common.{◌≡◌, ℕ, zero, suc, ◌+◌, ◌-◌, ◌*◌, ◌/◌, ◌%◌, ◌<◌, ◌≤◌, false, ◌⊎◌, List, length, get_or, set, sym, refl, ap, ◌∙◌, subst, inl, inr, arith, length-set, Some, None}
 use native.Mathlib.Decide.{dec_lt}
 use Rattle.std.proofs.lemmas.Bool.{cases_eq}
 use Rattle.std.proofs.lemmas.List.{get_or-set_same, get_or-set_other, get_or_past}
 use Rattle.format.specs.Meaning.{padding}
 use Rattle.format.specs.Laws.{Lawful}
-use Rattle.arena.specs.declared.segments.Owner.TheVariants.{Free, Pool}
 use Rattle.arena.specs.Buffers.{padded_part}
 use Rattle.trace.specs.declared.state.Trace.{Trace}
 use Rattle.trace.specs.Traces.{rest, Heap, heap}
@@ -95,7 +94,7 @@ module _ (S : Start) (ok : Sound S) (laws : Lawful S.meaning) (Todo : ℕ → Ty
         owners = inv.ready.owners;
         targets = length-set t.state.targets p 0 ∙ inv.ready.targets;
         owned = λ q h. elim (same_or_none q) [
-          | inl e ↦ subst (λ (n : ℕ). (owner t (n / 256) ≡ Pool q) × (n / 256 * 256 + 256 ≤ length t.words) × (256 ≤ n) × (get_or S.plan.condemned (n / 256) false ≡ false)) (sym e)
+          | inl e ↦ subst (λ (n : ℕ). (owner t (n / 256) ≡ Some q) × (n / 256 * 256 + 256 ≤ length t.words) × (256 ≤ n) × (get_or S.plan.condemned (n / 256) false ≡ false)) (sym e)
               (inv.ready.owned q (subst (λ (n : ℕ). 1 ≤ n % 256) e h))
           | inr e ↦ absurd (none_ahead q e.1 h)
         ];
@@ -115,7 +114,7 @@ module _ (S : Start) (ok : Sound S) (laws : Lawful S.meaning) (Todo : ℕ → Ty
         plain = inv.fill.plain;
         pools = inv.fill.pools;
         aims = λ q h. elim (same_or_none q) [
-          | inl e ↦ subst (λ (y : ℕ). owner0 S (y / 256) ≡ Free) (sym e) (inv.fill.aims q (subst (λ (n : ℕ). 1 ≤ n % 256) e h))
+          | inl e ↦ subst (λ (y : ℕ). owner0 S (y / 256) ≡ None) (sym e) (inv.fill.aims q (subst (λ (n : ℕ). 1 ≤ n % 256) e h))
           | inr e ↦ absurd (none_ahead q e.1 h)
         ];
         fronts = λ s q e o. elim (same_or_none q) [ inl z ↦ same_front s q z (inv.fill.fronts s q e o) | inr z ↦ gone_front s q z.0 z.1 (inv.fill.fronts s q e o) ];

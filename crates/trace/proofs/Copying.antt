@@ -1,10 +1,9 @@
 -- A copy keeps the invariant.
-use Rattle.std.proofs.Common.{◌≡◌, ℕ, ◌+◌, ◌/◌, ◌%◌, ◌<◌, ◌≤◌, true, false, ◌≢◌, ◌⊎◌, List, length, get_or, sym, refl, ◌∙◌, subst, inl, inr, arith}
+use Rattle.std.proofs.Common.{◌≡◌, ℕ, ◌+◌, ◌/◌, ◌%◌, ◌<◌, ◌≤◌, true, false, ◌≢◌, ◌⊎◌, List, length, get_or, sym, refl, ◌∙◌, subst, inl, inr, arith, None}
 use native.Mathlib.Decide.{dec_lt}
 use borrow.Author.Tests.{both_ways}
 use Rattle.std.proofs.lemmas.Bool.{cases_eq}
 use Rattle.format.specs.Meaning.{forwarded}
-use Rattle.arena.specs.declared.segments.Owner.TheVariants.{Free}
 use Rattle.arena.specs.Boards.{bit, with_bit}
 use Rattle.arena.proofs.BoardLaws.{laws_of}
 use Rattle.trace.specs.declared.state.Trace.{Trace}
@@ -129,8 +128,8 @@ module _ (S : Start) (ok : Sound S) (Todo : ℕ → Type 0) (t : Heap) (inv : In
       ]
 
   pub copy_ok : Ready S with_copy → ((c : ℕ) → Std S c → Owned S with_copy c) → ((w : ℕ) → Room with_copy w → Room t w × ((w < b) ⊎ (b + size0 S a ≤ w)))
-      → 256 ≤ b → b + size0 S a ≤ length t.words → condemns S.plan b ≡ false → b % 256 + size0 S a ≤ 256 → owner0 S (b / 256) ≡ Free → owner with_copy (b / 256) ≡ owner0 S (a / 256) → moves S.plan.classes (owner0 S (a / 256)) ≡ true
-      → ((s : ℕ) → owner t s ≢ Free → owner with_copy s ≡ owner t s) → ((c : ℕ) → grey with_copy c ≡ true → st.low ≤ c) → Fill S with_copy → ((w : ℕ) → owner with_copy (w / 256) ≡ Free → get_or k w 0 ≡ 0) → Inv S Todo with_copy
+      → 256 ≤ b → b + size0 S a ≤ length t.words → condemns S.plan b ≡ false → b % 256 + size0 S a ≤ 256 → owner0 S (b / 256) ≡ None → owner with_copy (b / 256) ≡ owner0 S (a / 256) → moves S.plan.classes (owner0 S (a / 256)) ≡ true
+      → ((s : ℕ) → owner t s ≢ None → owner with_copy s ≡ owner t s) → ((c : ℕ) → grey with_copy c ≡ true → st.low ≤ c) → Fill S with_copy → ((w : ℕ) → owner with_copy (w / 256) ≡ None → get_or k w 0 ≡ 0) → Inv S Todo with_copy
   copy_ok ready own free low high safe seg fresh home mover keep bound fill blank = record {
     long = cp.long ∙ inv.long;
     ready = ready;

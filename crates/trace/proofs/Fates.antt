@@ -1,7 +1,7 @@
 -- The bounds of a fate's numbers.
 use Rattle.std.proofs.Common.{ℕ, ◌+◌, ◌≤◌, arith}
-use Rattle.trace.specs.declared.state.Fate.{Fate}
-use Rattle.trace.specs.declared.state.Fate.TheVariants.{Stay, Gone, Mark, Grey, Copy, Fresh}
+use Rattle.trace.specs.declared.deciding.Fate.{Fate}
+use Rattle.trace.specs.declared.deciding.Fate.TheVariants.{Stay, Gone, Mark, Grey, Copy, Fresh}
 use Rattle.trace.specs.Traces.{Within, Bounded}
 
 pub bounded : (len a n : ℕ) (f : Fate) → n ≤ 256 → a + n ≤ len → Within len n f → Bounded len a f

@@ -1,9 +1,8 @@
 -- The segments that the trace took stay rows of copies.
-use Rattle.std.proofs.Common.{◌≡◌, ℕ, ◌+◌, ◌-◌, ◌*◌, ◌/◌, ◌%◌, ◌<◌, ◌≤◌, false, ◌≢◌, ◌⊎◌, List, sym, ap, ◌∙◌, subst, inl, inr, arith}
+use Rattle.std.proofs.Common.{◌≡◌, ℕ, ◌+◌, ◌-◌, ◌*◌, ◌/◌, ◌%◌, ◌<◌, ◌≤◌, false, ◌≢◌, ◌⊎◌, List, sym, ap, ◌∙◌, subst, inl, inr, arith, Some, None}
 use native.Mathlib.Decide.{dec_lt}
 use Rattle.std.proofs.lemmas.Bool.{cases_eq}
 use Rattle.format.specs.Meaning.{padding}
-use Rattle.arena.specs.declared.segments.Owner.TheVariants.{Free, Pool}
 use Rattle.arena.specs.Boards.{with_bit}
 use Rattle.trace.specs.declared.state.Trace.{Trace}
 use Rattle.trace.specs.Traces.{Heap, heap}
@@ -30,11 +29,11 @@ module _ (S : Start) (ok : Sound S) (Todo : ℕ → Type 0) (t : Heap) (inv : In
   pl : Placed S t inv.ready p b spot (size0 S a) big fit
   pl = placed S t inv.ready p b spot (size0 S a) big fit
 
-  pub fresh : owner0 S (b / 256) ≡ Free
+  pub fresh : owner0 S (b / 256) ≡ None
   fresh = go spot
     where
-      go : Spot t p b → owner0 S (b / 256) ≡ Free
-      go (onward e h) = subst (λ (x : ℕ). owner0 S (x / 256) ≡ Free) e (inv.fill.aims p (subst (λ (x : ℕ). 1 ≤ x % 256) (sym e) h))
+      go : Spot t p b → owner0 S (b / 256) ≡ None
+      go (onward e h) = subst (λ (x : ℕ). owner0 S (x / 256) ≡ None) e (inv.fill.aims p (subst (λ (x : ℕ). 1 ≤ x % 256) (sym e) h))
       go (opening z low h e) = inv.fill.empty (b / 256) e
 
   record Pre : Type 0 where
@@ -52,12 +51,12 @@ module _ (S : Start) (ok : Sound S) (Todo : ℕ → Type 0) (t : Heap) (inv : In
 
       go : Spot t p b → Pre
       go (onward e h) =
-          let o : owner t (b / 256) ≡ Pool p = subst (λ (x : ℕ). owner t (x / 256) ≡ Pool p) e (inv.ready.owned p (subst (λ (x : ℕ). 1 ≤ x % 256) (sym e) h)).0 in
+          let o : owner t (b / 256) ≡ Some p = subst (λ (x : ℕ). owner t (x / 256) ≡ Some p) e (inv.ready.owned p (subst (λ (x : ℕ). 1 ≤ x % 256) (sym e) h)).0 in
           let f = inv.fill.fronts (b / 256) p fresh o in
           let z = from_front b e h f in
           record { below = λ c d s g y. subst (λ (x : ℕ). d + size0 S c ≤ x) z (f.below c d s g y); cover = λ w x y. f.cover w x (subst (λ (v : ℕ). w < v) (sym z) y) }
       go (opening z low h e) = record {
-        below = λ c d s g y. absurd (elim (inv.room d c d (unused (inv.copied c d s g).low (omega (arith, (inv.copied c d s g).high, ok.some c s)) (subst (λ (x : ℕ). owner t x ≡ Free) (sym y) e)) s (copy g)) [
+        below = λ c d s g y. absurd (elim (inv.room d c d (unused (inv.copied c d s g).low (omega (arith, (inv.copied c d s g).high, ok.some c s)) (subst (λ (x : ℕ). owner t x ≡ None) (sym y) e)) s (copy g)) [
           | inl x ↦ omega arith
           | inr x ↦ omega (arith, ok.some c s)
         ]);
@@ -93,21 +92,21 @@ module _ (S : Start) (ok : Sound S) (Todo : ℕ → Type 0) (t : Heap) (inv : In
   }
 
   -- padding in another segment stays
-  pad_still : (s f : ℕ) → owner0 S s ≡ Free → s ≢ b / 256 → s * 256 ≤ f → f < s * 256 + 256 → rd S t.words f ≡ padding (s * 256 + 256 - f) → rd S k f ≡ padding (s * 256 + 256 - f)
+  pad_still : (s f : ℕ) → owner0 S s ≡ None → s ≢ b / 256 → s * 256 ≤ f → f < s * 256 + 256 → rd S t.words f ≡ padding (s * 256 + 256 - f) → rd S k f ≡ padding (s * 256 + 256 - f)
   pad_still s f e ne bot top pd =
       cp.others f (s * 256 + 256 - f) (real_padding S.meaning (rd S t.words f) (s * 256 + 256 - f) pd)
-      (seg_apart f (s * 256 + 256 - f) a (size0 S a) (λ z. ok.used a oa.0 (subst (λ (y : ℕ). owner0 S y ≡ Free) (from z) e)) (omega arith) (ok.seg a oa.0))
+      (seg_apart f (s * 256 + 256 - f) a (size0 S a) (λ z. ok.used a oa.0 (subst (λ (y : ℕ). owner0 S y ≡ None) (from z) e)) (omega arith) (ok.seg a oa.0))
       (seg_apart f (s * 256 + 256 - f) b (size0 S a) (λ z. ne (omega arith)) (omega arith) fit) ∙ pd
     where
       from : f / 256 ≡ a / 256 → s ≡ a / 256
       from z = omega arith
 
-  closed : (s f : ℕ) → owner0 S s ≡ Free → s ≢ b / 256 → s * 256 ≤ f → f ≤ s * 256 + 256 → (f ≡ s * 256 + 256) ⊎ (rd S t.words f ≡ padding (s * 256 + 256 - f))
+  closed : (s f : ℕ) → owner0 S s ≡ None → s ≢ b / 256 → s * 256 ≤ f → f ≤ s * 256 + 256 → (f ≡ s * 256 + 256) ⊎ (rd S t.words f ≡ padding (s * 256 + 256 - f))
       → (f ≡ s * 256 + 256) ⊎ (rd S k f ≡ padding (s * 256 + 256 - f))
   closed s f e ne bot top (inl z) = inl z
   closed s f e ne bot top (inr z) = elim (dec_lt f (s * 256 + 256)) [ yes l ↦ inr (pad_still s f e ne bot l z) | no l ↦ inl (omega arith) ]
 
-  other_front : (s q : ℕ) → owner0 S s ≡ Free → s ≢ b / 256 → Front S t s q → Front S u s q
+  other_front : (s q : ℕ) → owner0 S s ≡ None → s ≢ b / 256 → Front S t s q → Front S u s q
   other_front s q e ne f = record {
     front = f.front;
     low = f.low;
@@ -144,25 +143,25 @@ module _ (S : Start) (ok : Sound S) (Todo : ℕ → Type 0) (t : Heap) (inv : In
   filled = record {
     fronts = λ s q e o. elim (cases_eq s (b / 256)) [
       | inl z ↦ subst (λ (s : ℕ). Front S u s q) (sym z) (subst (λ (q : ℕ). Front S u (b / 256) q)
-          (pool_same p q (owner u (b / 256)) onto.own_same (subst (λ (x : ℕ). owner u x ≡ Pool q) z o)) here_front)
+          (pool_same p q (owner u (b / 256)) onto.own_same (subst (λ (x : ℕ). owner u x ≡ Some q) z o)) here_front)
       | inr n ↦ other_front s q e n (inv.fill.fronts s q e (sym (onto.own_other s n) ∙ o))
     ];
     aims = λ q h. elim (cases_eq q p) [
-      | inr n ↦ (let x = onto.aims q n in subst (λ (y : ℕ). owner0 S (y / 256) ≡ Free) (sym x) (inv.fill.aims q (rw (← x) h)))
+      | inr n ↦ (let x = onto.aims q n in subst (λ (y : ℕ). owner0 S (y / 256) ≡ None) (sym x) (inv.fill.aims q (rw (← x) h)))
       | inl e ↦ (let y : target u q ≡ b + size0 S a = ap (target u) e ∙ onto.aim in
           let h' : 1 ≤ (b + size0 S a) % 256 = rw (← y) h in
           let g : (b + size0 S a) / 256 ≡ b / 256 = omega arith in
-          subst (λ (v : ℕ). owner0 S (v / 256) ≡ Free) (sym y) (subst (λ (v : ℕ). owner0 S v ≡ Free) (sym g) fresh))
+          subst (λ (v : ℕ). owner0 S (v / 256) ≡ None) (sym y) (subst (λ (v : ℕ). owner0 S v ≡ None) (sym g) fresh))
     ];
-    empty = λ s e. inv.fill.empty s (sym (onto.own_other s (λ z. pool_not_free p (owner u (b / 256)) onto.own_same (subst (λ (x : ℕ). owner u x ≡ Free) z e))) ∙ e);
+    empty = λ s e. inv.fill.empty s (sym (onto.own_other s (λ z. pool_not_free p (owner u (b / 256)) onto.own_same (subst (λ (x : ℕ). owner u x ≡ None) z e))) ∙ e);
     low = onto.own_other 0 (λ z. omega (arith, pl.low)) ∙ inv.fill.low;
     plain = λ s q e o. elim (cases_eq s (b / 256)) [
-      | inl z ↦ subst (λ (x : ℕ). leafy S x ≡ false) (pool_same p q (owner u (b / 256)) onto.own_same (subst (λ (x : ℕ). owner u x ≡ Pool q) z o)) bare
+      | inl z ↦ subst (λ (x : ℕ). leafy S x ≡ false) (pool_same p q (owner u (b / 256)) onto.own_same (subst (λ (x : ℕ). owner u x ≡ Some q) z o)) bare
       | inr n ↦ inv.fill.plain s q e (sym (onto.own_other s n) ∙ o)
     ];
     pools = λ s q o. elim (cases_eq s (b / 256)) [
       | inl z ↦ (
-        subst (λ (x : ℕ). x < 8) (pool_same p q (owner u (b / 256)) onto.own_same (subst (λ (x : ℕ). owner u x ≡ Pool q) z o)) pin,
+        subst (λ (x : ℕ). x < 8) (pool_same p q (owner u (b / 256)) onto.own_same (subst (λ (x : ℕ). owner u x ≡ Some q) z o)) pin,
         omega (arith, cp.long, pl.inside),
       )
       | inr n ↦ (let r = inv.fill.pools s q (sym (onto.own_other s n) ∙ o) in (r.0, omega (arith, cp.long, r.1)))

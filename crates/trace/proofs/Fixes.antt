@@ -10,16 +10,14 @@ use Rattle.format.specs.declared.things.Slot.TheVariants.{Reference, Number}
 use Rattle.format.specs.Meaning.{shape, padding}
 use Rattle.format.specs.Laws.{Lawful}
 use Rattle.format.proofs.Memory.{readings}
-use Rattle.arena.specs.declared.segments.Owner.{Owner}
-use Rattle.arena.specs.declared.segments.Owner.TheVariants.{Free, Pool}
 use Rattle.arena.specs.Boards.{bit, with_bit, reach}
-use Rattle.arena.specs.Segments.{lowest_free}
+use Rattle.arena.specs.Segments.{Owner, lowest_free}
 use Rattle.arena.proofs.BoardLaws.{laws_of}
 use Rattle.trace.specs.declared.state.Class.{Class}
 use Rattle.trace.specs.declared.state.Class.TheVariants.{Amc, Ams, Lo}
 use Rattle.trace.specs.declared.state.Trace.{Trace}
-use Rattle.trace.specs.declared.state.Fate.{Fate}
-use Rattle.trace.specs.declared.state.Fate.TheVariants.{Stay, Copy, Fresh}
+use Rattle.trace.specs.declared.deciding.Fate.{Fate}
+use Rattle.trace.specs.declared.deciding.Fate.TheVariants.{Stay, Copy, Fresh}
 use Rattle.trace.specs.Traces.{limit_of, head_at, class_of, condemns, rest, by_free, by_room, by_class, by_owner, by_head, sought, taken_words, copied_words, copied_state, taken_state, Heap, heap, acted, answered, fate_of, fixed, fix_answer}
 use Rattle.trace.specs.Collections.{is_amc, is_lo, moves}
 use Rattle.trace.proofs.Cells.{Apart, slots_of, owner, target, marked, stays, rd, owner0, leafy, Start, Std, thing0, size0, layout0, slots0, Obj, Fits, AllFit, Moved, Cell, same, copy, Names, null, names, stay, move, Settled, empty, settled, Body, Held, here, away, still, Null, Room, ahead, Owned, Inv, Grows, Keeps, Sound}
@@ -128,7 +126,7 @@ module _ (S : Start) (ok : Sound S) (laws : Lawful S.meaning) (Todo : ℕ → Ty
 
     -- pool p is a's own, and its objects move
     abbrev Home : ℕ → Type 0
-    Home p = (owner0 S (a / 256) ≡ Pool p) × (moves S.plan.classes (Pool p) ≡ true)
+    Home p = (owner0 S (a / 256) ≡ Some p) × (moves S.plan.classes (Some p) ≡ true)
 
     module _ (p b : ℕ) (class : leafy S p ≡ false) (home : Home p) (spot : Spot t p b) (fit : b % 256 + size0 S a ≤ 256) (pin : p < 8)
         (closing : 1 ≤ target t p % 256 → target t p / 256 ≢ b / 256
@@ -160,17 +158,17 @@ module _ (S : Start) (ok : Sound S) (laws : Lawful S.meaning) (Todo : ℕ → Ty
           = λ n e k. subst (λ (n : ℕ). b + n ≤ length t.words → Apart a n b n → Copying S t.words (copied_words S.meaning t.words a n b) a b n) e k high apart_new in
           g (S.meaning.size (shape (layout0 S a) (length (slots_of (rd S t.words a))))) size_now f
 
-      keep : (s : ℕ) → owner t s ≢ Free → owner u s ≡ owner t s
+      keep : (s : ℕ) → owner t s ≢ None → owner u s ≡ owner t s
       keep = owner_onto S t inv.ready p b spot (size0 S a) (ok.some a sa) fit u cp.long onto
 
       owned' : (c : ℕ) → Std S c → Owned S u c
       owned' c s = let o = inv.owned c s in owned_on S t u c (keep (c / 256) (pool_not_free o.pool (owner t (c / 256)) o.is)) o
 
-      blank' : (w : ℕ) → owner u (w / 256) ≡ Free → get_or (copy_words_to b) w 0 ≡ 0
+      blank' : (w : ℕ) → owner u (w / 256) ≡ None → get_or (copy_words_to b) w 0 ≡ 0
       blank' w e =
-          let n : w / 256 ≢ b / 256 = λ z. pool_not_free p (owner u (b / 256)) onto.own_same (subst (λ (x : ℕ). owner u x ≡ Free) z e) in
-          let f : owner t (w / 256) ≡ Free = sym (onto.own_other (w / 256) n) ∙ e in
-          cp.words w (word_apart w a (size0 S a) (λ z. cell_used S ok Todo t inv a a sa (same refl) (subst (λ (x : ℕ). owner t x ≡ Free) z f)) (ok.seg a sa))
+          let n : w / 256 ≢ b / 256 = λ z. pool_not_free p (owner u (b / 256)) onto.own_same (subst (λ (x : ℕ). owner u x ≡ None) z e) in
+          let f : owner t (w / 256) ≡ None = sym (onto.own_other (w / 256) n) ∙ e in
+          cp.words w (word_apart w a (size0 S a) (λ z. cell_used S ok Todo t inv a a sa (same refl) (subst (λ (x : ℕ). owner t x ≡ None) z f)) (ok.seg a sa))
           (word_apart w b (size0 S a) n fit) ∙ inv.blank w f
 
       fix_copy : Fixed S Todo t a b u
@@ -213,15 +211,15 @@ module _ (S : Start) (ok : Sound S) (laws : Lawful S.meaning) (Todo : ℕ → Ty
         let o = (inv.ready.owned p h).0 in
         seg_apart f (s * 256 + 256 - f) at (rest at)
         (λ z. (let x : at / 256 ≡ s = omega arith in
-        let pq : p ≡ q = pool_same p q (owner t s) (subst (λ (x : ℕ). owner t x ≡ Pool p) x o) ow in
+        let pq : p ≡ q = pool_same p q (owner t s) (subst (λ (x : ℕ). owner t x ≡ Some p) x o) ow in
         shut (subst (λ (x : ℕ). 1 ≤ target t x % 256) pq h) (subst (λ (x : ℕ). target t x / 256 ≡ s) pq x)))
         (omega arith) (omega arith)))
 
-    pad_blank : (w : ℕ) → owner t (w / 256) ≡ Free → get_or rest_padded.words w 0 ≡ 0
+    pad_blank : (w : ℕ) → owner t (w / 256) ≡ None → get_or rest_padded.words w 0 ≡ 0
     pad_blank w e =
         effect.words w (λ k. (let h : 1 ≤ at % 256 = omega arith in
         let o = (inv.ready.owned p h).0 in
-        word_apart w at (rest at) (λ z. pool_not_free p (owner t (at / 256)) o (subst (λ (x : ℕ). owner t x ≡ Free) z e)) (omega arith)))
+        word_apart w at (rest at) (λ z. pool_not_free p (owner t (at / 256)) o (subst (λ (x : ℕ). owner t x ≡ None) z e)) (omega arith)))
         ∙ inv.blank w e
 
     pub pad_inv : Inv S Todo rest_padded
@@ -291,16 +289,16 @@ module _ (S : Start) (ok : Sound S) (laws : Lawful S.meaning) (Todo : ℕ → Ty
         fixed_after t v a (s * 256) (acted S.meaning t a (Fresh p (size0 S a) s)) (pad_grows t inv p) (pad_keeps t inv p) (pad_falls t inv p)
         (fix_copy v i a oa gone
         (body_map S t.words v.words (pad_grows t inv p).moves a (rd S t.words a) (rd S v.words a) (pad_frame t inv p a a sb (same refl)) body)
-        p (s * 256) c own (opening (omega arith) (omega (arith, f.0)) (omega (arith, f.2, (effect t inv p).long)) (subst (λ (x : ℕ). owner t x ≡ Free) (sym k) f.3)) (omega (arith, small)) pin
+        p (s * 256) c own (opening (omega arith) (omega (arith, f.0)) (omega (arith, f.2, (effect t inv p).long)) (subst (λ (x : ℕ). owner t x ≡ None) (sym k) f.3)) (omega (arith, small)) pin
         (λ h n. pad_closes t inv p h)
         st
         (record {
-          own_same = subst (λ (x : ℕ). get_or (set t.state.segments.owners s (Pool p)) x Free ≡ Pool p) (sym k) (get_or-set_same t.state.segments.owners s (Pool p) Free (omega (arith, inv.ready.owners, f.1)));
-          own_other = λ q ne. get_or-set_other t.state.segments.owners s q (Pool p) Free (λ z. ne (z ∙ sym k));
+          own_same = subst (λ (x : ℕ). get_or (set t.state.segments.owners s (Some p)) x None ≡ Some p) (sym k) (get_or-set_same t.state.segments.owners s (Some p) None (omega (arith, inv.ready.owners, f.1)));
+          own_other = λ q ne. get_or-set_other t.state.segments.owners s q (Some p) None (λ z. ne (z ∙ sym k));
           aim = get_or-set_same (set t.state.targets p (s * 256)) p (s * 256 + size0 S a) 0 (omega (arith, inv.ready.targets, length-set t.state.targets p (s * 256)));
           aims = λ q ne. get_or-set_other (set t.state.targets p (s * 256)) p q (s * 256 + size0 S a) 0 ne ∙ get_or-set_other t.state.targets p q (s * 256) 0 ne;
         })
-        (length-set t.state.segments.owners s (Pool p) ∙ inv.ready.owners)
+        (length-set t.state.segments.owners s (Some p) ∙ inv.ready.owners)
         (length-set (set t.state.targets p (s * 256)) p (s * 256 + size0 S a) ∙ length-set t.state.targets p (s * 256) ∙ inv.ready.targets)
         (λ x h. elim (board_set t.greys (s * 256) x h) [ inl g ↦ omega (arith, inv.bound x g) | inr e ↦ omega arith ]))
 
@@ -320,7 +318,7 @@ module _ (S : Start) (ok : Sound S) (laws : Lawful S.meaning) (Todo : ℕ → Ty
           (fix_free p pin c own (lowest_free t.state.segments (length t.words)) refl)
     ]
 
-    fix_class : (p : ℕ) → p < 8 → owner0 S (a / 256) ≡ Pool p → (leafy S p ≡ true → AllFit Null (slots0 S a) (slots0 S a)) → (x : Class) → class_of S.plan p ≡ x → FixedBy (by_class t.state (length t.words) p (size0 S a) x)
+    fix_class : (p : ℕ) → p < 8 → owner0 S (a / 256) ≡ Some p → (leafy S p ≡ true → AllFit Null (slots0 S a) (slots0 S a)) → (x : Class) → class_of S.plan p ≡ x → FixedBy (by_class t.state (length t.words) p (size0 S a) x)
     fix_class p pin own leaf Amc e = fix_room p pin (ap is_lo e) (own, and_from (ltb p 8) (is_amc (class_of S.plan p)) (lt-ltb p 8 pin) (ap is_amc e))
     fix_class p pin own leaf Ams e = fix_grey t inv a oa gone body
     fix_class p pin own leaf Lo e = fix_leaf t inv a oa gone body (leaf (ap is_lo e))

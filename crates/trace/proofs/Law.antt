@@ -1,5 +1,5 @@
 -- What a collection keeps.
-use Rattle.std.proofs.Common.{◌≡◌, ℕ, ◌+◌, ◌*◌, ◌/◌, ◌%◌, ◌<◌, ◌≤◌, Bool, true, false, not, ◌&&◌, ltb, ◌⊎◌, List, length, get_or, replicate, Some, Result, sym, refl, ap, ◌∙◌, subst, inl, inr, arith}
+use Rattle.std.proofs.Common.{◌≡◌, ℕ, ◌+◌, ◌*◌, ◌/◌, ◌%◌, ◌<◌, ◌≤◌, Bool, true, false, not, ◌&&◌, ltb, ◌⊎◌, List, length, get_or, replicate, Some, Result, sym, refl, ap, ◌∙◌, subst, inl, inr, arith, None}
 use native.Mathlib.Decide.{dec_lt}
 use borrow.Author.Tests.{both_ways}
 use Rattle.trace.proofs.Spots.{owner_cases}
@@ -9,10 +9,8 @@ use Rattle.format.specs.declared.things.Slot.{Slot}
 use Rattle.format.specs.declared.things.Slot.TheVariants.{Number}
 use Rattle.format.specs.Meaning.{Meaning, object}
 use Rattle.format.specs.Laws.{Lawful}
-use Rattle.arena.specs.declared.segments.Owner.{Owner}
-use Rattle.arena.specs.declared.segments.Owner.TheVariants.{Free, Pool}
 use Rattle.arena.specs.Boards.{bit_of, bit}
-use Rattle.arena.specs.Segments.{owner_of, segments_in}
+use Rattle.arena.specs.Segments.{Owner, owner_of, segments_in}
 use Rattle.arena.proofs.Lowest.{zero_bit}
 use Rattle.trace.specs.declared.state.Plan.{Plan}
 use Rattle.trace.specs.Traces.{condemns, Heap, heap, rounded}
@@ -58,13 +56,13 @@ module _ (m : Meaning) (laws : Lawful m) (h : Held) (pools : ℕ) (sa : SoundAre
   pub ok : Sound S
   ok = sound S laws sa.space
 
-  free_safe : (s : ℕ) → owner0 S s ≡ Free → get_or y.condemned s false ≡ false
+  free_safe : (s : ℕ) → owner0 S s ≡ None → get_or y.condemned s false ≡ false
   free_safe s e = elim (dec_lt s 256) [
     | yes l ↦ condemned_at h.arena.segments pools s l ∙ ap (in_set pools) e
     | no l ↦ condemned_past h.arena.segments pools s (omega arith)
   ]
 
-  used : (s : ℕ) → get_or y.condemned s false ≡ true → (p : ℕ) × (owner0 S s ≡ Pool p)
+  used : (s : ℕ) → get_or y.condemned s false ≡ true → (p : ℕ) × (owner0 S s ≡ Some p)
   used s c = elim (owner_cases (owner0 S s)) [ inl e ↦ absurd (both_ways (get_or y.condemned s false) (free_safe s e) c) | inr e ↦ e ]
 
   board_long : (b : List ℕ) → b ≡ replicate (length h.words / 32) 0 → 32 * length b ≡ length ws0
@@ -145,7 +143,7 @@ module _ (m : Meaning) (laws : Lawful m) (h : Held) (pools : ℕ) (sa : SoundAre
       let sc : to_scan S ok laws (q / 256) ≡ true = ready (get_or y.condemned (q / 256) false) (owner0 S (q / 256)) o.1 k.pool k.owner w.0 (o.2 k.pool k.owner) in
       both_ways (is_base m ws0 (q / 256 * 256 + 256) 256 (q / 256 * 256) q) (d.1 (q / 256) (omega (arith, w.1, rooted_up.inv.long, sa.space.whole.1)) sc) k.base
     where
-      ready : (c : Bool) (o : Owner) → c ≡ false → (p : ℕ) → o ≡ Pool p → p < 8 → leafy S p ≡ false → (not c && refers y.classes o) ≡ true
+      ready : (c : Bool) (o : Owner) → c ≡ false → (p : ℕ) → o ≡ Some p → p < 8 → leafy S p ≡ false → (not c && refers y.classes o) ≡ true
       ready c o e p f l n = subst (λ (z : Bool). (not z && refers y.classes o) ≡ true) (sym e) (subst (λ (z : Owner). refers y.classes z ≡ true) (sym f) (pair (ltb p 8) (leafy S p) (lt-ltb p 8 l) n))
         where
           pair : (x z : Bool) → x ≡ true → z ≡ false → (x && not z) ≡ true
@@ -175,7 +173,7 @@ module _ (m : Meaning) (laws : Lawful m) (h : Held) (pools : ℕ) (sa : SoundAre
   abbrev swept : Ground
   swept = segments_swept m y u.marks (ground u.state.segments u.words) (segments_in (length u.words))
 
-  standing : (s p q : ℕ) → owner0 S s ≡ Pool p → Base S ws0 (s * 256 + 256) (s * 256) q → Std S q
+  standing : (s p q : ℕ) → owner0 S s ≡ Some p → Base S ws0 (s * 256 + 256) (s * 256) q → Std S q
   standing s p q e b = ((rowed s p e).1 q (of_base S ws0 (s * 256 + 256) 256 (s * 256) q (row_chain S laws ws0 (s * 256 + 256) (s * 256) (sa.space.rows s p e)) (omega arith) b)).0
 
   based : (q : ℕ) → Std S q → Base S ws0 (q / 256 * 256 + 256) (q / 256 * 256) q

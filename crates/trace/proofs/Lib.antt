@@ -2,8 +2,9 @@ mod Fates
 mod Turns
 mod Walks
 mod Pointing
+mod Tables
+mod Loops
 mod Chain
-mod Performing
 mod Cells
 mod Facts
 mod Marking

@@ -1,11 +1,10 @@
 -- A new arena is sound.
-use Rattle.std.proofs.Common.{◌≡◌, ℕ, zero, suc, ◌+◌, ◌*◌, ◌/◌, ◌%◌, true, ◌&&◌, eqb, leb, List, length, replicate, sym, refl, ap, ◌∙◌, subst, inl, inr}
+use Rattle.std.proofs.Common.{◌≡◌, ℕ, zero, suc, ◌+◌, ◌*◌, ◌/◌, ◌%◌, true, ◌&&◌, eqb, leb, List, length, replicate, sym, refl, ap, ◌∙◌, subst, inl, inr, None}
 use borrow.Author.Tests.{both_ways}
 use Rattle.std.proofs.lemmas.Bool.{cases_Bool, cond-true, cond-false, eqb-true, leb-true, and_parts}
 use Rattle.std.proofs.lemmas.List.{length-replicate}
 use Rattle.format.specs.Meaning.{Meaning}
-use Rattle.arena.specs.declared.segments.Owner.TheVariants.{Free}
-use Rattle.arena.specs.Segments.{all_free, owner_of}
+use Rattle.arena.specs.Segments.{Owner, all_free, owner_of}
 use Rattle.arena.specs.Buffers.{no_buffer, padded_part}
 use Rattle.trace.specs.declared.state.Class.{Class}
 use Rattle.trace.specs.Collections.{buffers_closed, all_buffers_closed}
@@ -28,8 +27,8 @@ pub unclosed : (m : Meaning) (ws : List ℕ) → all_buffers_closed m (replicate
 unfolding all_buffers_closed
 unclosed m ws = none_closed m ws 8
 
-unowned : (s : ℕ) → owner_of all_free s ≡ Free
-unowned s = get_or_all 256 s Free
+unowned : (s : ℕ) → owner_of all_free s ≡ None
+unowned s = get_or_all 256 s None
 
 module _ (m : Meaning) (classes : List Class) (len : ℕ) (f : fits m len (len / 32) (len / 32) ≡ true) where
   abbrev x : Space
@@ -50,7 +49,7 @@ module _ (m : Meaning) (classes : List Class) (len : ℕ) (f : fits m len (len /
   pub sound : Sound m classes x
   sound = record {
     whole = rw (length-replicate {A = ℕ} len 0) (eqb-true (len % 256) 0 p.0, leb-true len 65536 p.1, leb-true len (m.greatest_address + 1) p.2);
-    owners = length-replicate 256 Free;
+    owners = length-replicate {A = Owner} 256 None;
     first = unowned 0;
     owned = λ s p e. absurd (pool_not_free p (owner_of all_free s) e (unowned s));
     rows = λ s p e. absurd (pool_not_free p (owner_of all_free s) e (unowned s));

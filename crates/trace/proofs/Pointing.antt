@@ -3,13 +3,13 @@ use Rattle.std.proofs.Common.{◌≡◌, ℕ, zero, suc, ◌-◌, ◌<◌, ◌�
 use Rattle.std.proofs.lemmas.Bool.{cases_lt, cond-true, cond-false, lt-ltb, le-ltb}
 use Rattle.format.specs.Meaning.{Meaning, seen}
 use Rattle.format.specs.Laws.{part}
-use Rattle.trace.specs.Traces.{stood, end_of}
+use Rattle.trace.specs.Traces.{stood}
 use Rattle.trace.specs.Collections.{base_of, pointed, pointed_in}
 use Rattle.trace.proofs.Walks.{stood_ends}
 
 module _ (m : Meaning) (ws ms : List ℕ) (limit w : ℕ) where
   abbrev end_from : ℕ → ℕ
-  end_from at = end_of (stood m ws ms at limit)
+  end_from at = (stood m ws ms at limit).end
 
   abbrev here : ℕ → Option ℕ
   here at = base_of (seen m (part at (limit - at) ws)) at
@@ -39,6 +39,3 @@ module _ (m : Meaning) (ws ms : List ℕ) (limit w : ℕ) where
   points_on at l h =
       let e = stood_ends m ws ms at limit l in
       unrolled at l ∙ cond-false _ _ _ (le-ltb w (end_from at) h) ∙ enough (limit - at - 1) (limit - end_from at) (end_from at) (omega (arith, e)) (omega arith)
-
-  pub points_none : (at : ℕ) → limit ≤ at → pointed_in m ws ms at limit w ≡ None
-  points_none at l = let z : limit - at ≡ 0 = omega arith in ap (λ k. pointed m ws ms limit w k at) z

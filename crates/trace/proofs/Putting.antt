@@ -1,13 +1,12 @@
 -- A slot written, words padded, an object ungreyed.
-use Rattle.std.proofs.Common.{◌≡◌, ℕ, ◌+◌, ◌-◌, ◌*◌, ◌/◌, ◌%◌, ◌<◌, ◌≤◌, true, ◌≢◌, ◌⊎◌, List, length, get_or, set, sym, refl, ap, ◌∙◌, subst, ap₂, inl, inr, arith, length-set, get_or-set_other, get_or-set_same}
+use Rattle.std.proofs.Common.{◌≡◌, ℕ, ◌+◌, ◌-◌, ◌*◌, ◌/◌, ◌%◌, ◌<◌, ◌≤◌, true, ◌≢◌, ◌⊎◌, List, length, get_or, set, sym, refl, ap, ◌∙◌, subst, ap₂, inl, inr, arith, length-set, get_or-set_other, get_or-set_same, Some, None}
 use native.Mathlib.Decide.{dec_lt}
 use borrow.Author.Tests.{both_ways}
 use Rattle.std.proofs.lemmas.Bool.{cases_eq}
 use Rattle.format.specs.declared.things.Slot.{Slot}
 use Rattle.format.specs.declared.things.Slot.TheVariants.{Number}
 use Rattle.format.specs.Meaning.{object, forwarded, padding}
-use Rattle.arena.specs.declared.segments.Owner.{Owner}
-use Rattle.arena.specs.declared.segments.Owner.TheVariants.{Free, Pool}
+use Rattle.arena.specs.Segments.{Owner}
 use Rattle.arena.specs.Boards.{without_bit}
 use Rattle.arena.proofs.BoardLaws.{laws_of}
 use Rattle.trace.specs.Traces.{Heap, heap, ungreyed}
@@ -53,7 +52,7 @@ put_words t k = heap t.state k t.marks t.greys
 
 -- the paddings of segments that the trace took stay
 abbrev pub Pads : Start → Heap → List ℕ → Type 0
-Pads S t k = (s p f : ℕ) → owner0 S s ≡ Free → owner t s ≡ Pool p → (1 ≤ target t p % 256 → target t p / 256 ≡ s → ⊥)
+Pads S t k = (s p f : ℕ) → owner0 S s ≡ None → owner t s ≡ Some p → (1 ≤ target t p % 256 → target t p / 256 ≡ s → ⊥)
     → ((a b : ℕ) → Std S a → Moved S t.words a b → b / 256 ≡ s → b + size0 S a ≤ f)
     → s * 256 ≤ f → f < s * 256 + 256 → rd S t.words f ≡ padding (s * 256 + 256 - f) → rd S k f ≡ rd S t.words f
 
@@ -121,11 +120,11 @@ pub word_apart : (w p n : ℕ) → w / 256 ≢ p / 256 → p % 256 + n ≤ 256 �
 word_apart w p n ne h = elim (dec_lt w p) [ yes l ↦ inl l | no l ↦ inr (let z : p / 256 < w / 256 = omega arith in omega arith) ]
 
 -- a cell's segment is in use
-pub cell_used : (S : Start) (ok : Sound S) (Todo : ℕ → Type 0) (t : Heap) → Inv S Todo t → (a p : ℕ) → Std S a → Cell S t.words a p → owner t (p / 256) ≢ Free
+pub cell_used : (S : Start) (ok : Sound S) (Todo : ℕ → Type 0) (t : Heap) → Inv S Todo t → (a p : ℕ) → Std S a → Cell S t.words a p → owner t (p / 256) ≢ None
 cell_used S ok Todo t inv a p s (same q) e =
     let o = inv.owned a s in
-    let f : owner t (a / 256) ≡ Free = subst (λ (x : ℕ). owner t (x / 256) ≡ Free) q e in
-    let z : ◌≡◌ {A = Owner} (Pool o.pool) Free = sym o.is ∙ f in
+    let f : owner t (a / 256) ≡ None = subst (λ (x : ℕ). owner t (x / 256) ≡ None) q e in
+    let z : ◌≡◌ {A = Owner} (Some o.pool) None = sym o.is ∙ f in
     let y : ◌≡◌ {A = ℕ} 0 1 = cc in absurd (omega arith)
 cell_used S ok Todo t inv a p s (copy g) e =
     let h = inv.copied a p s g in
@@ -138,7 +137,7 @@ cell_seg S ok Todo t inv a p s (copy g) = (inv.copied a p s g).seg
 -- words that are no cell's are written
 module _ (S : Start) (Todo : ℕ → Type 0) (t : Heap) (inv : Inv S Todo t) (k : List ℕ) (long : length k ≡ length t.words)
     (frame : (c q : ℕ) → Std S c → Cell S t.words c q → rd S k q ≡ rd S t.words q)
-    (pads : Pads S t k) (blank' : (w : ℕ) → owner t (w / 256) ≡ Free → get_or k w 0 ≡ 0) where
+    (pads : Pads S t k) (blank' : (w : ℕ) → owner t (w / 256) ≡ None → get_or k w 0 ≡ 0) where
   moves_on : (c d : ℕ) → Std S c → Moved S t.words c d → Moved S k c d
   moves_on c d s g = frame c c s (same refl) ∙ g
 
@@ -233,7 +232,7 @@ module _ (S : Start) (ok : Sound S) (Todo : ℕ → Type 0) (t : Heap) (inv : In
   put_pads s o f e ow shut below bot hi pd = pt.others f (s * 256 + 256 - f) (real_padding S.meaning (rd S t.words f) (s * 256 + 256 - f) pd) (go (final_cell S t a p fin))
     where
       go : Cell S t.words a p → Apart f (s * 256 + 256 - f) p (size0 S a)
-      go (same q) = seg_apart f (s * 256 + 256 - f) p (size0 S a) (λ z. ok.used a sa (subst (λ (y : ℕ). owner0 S y ≡ Free) (from z) e)) (omega arith) (subst (λ (y : ℕ). y % 256 + size0 S a ≤ 256) (sym q) (ok.seg a sa))
+      go (same q) = seg_apart f (s * 256 + 256 - f) p (size0 S a) (λ z. ok.used a sa (subst (λ (y : ℕ). owner0 S y ≡ None) (from z) e)) (omega arith) (subst (λ (y : ℕ). y % 256 + size0 S a ≤ 256) (sym q) (ok.seg a sa))
         where
           from : f / 256 ≡ p / 256 → s ≡ a / 256
           from z = let y : p / 256 ≡ a / 256 = ap (λ (v : ℕ). v / 256) q in omega arith
@@ -242,8 +241,8 @@ module _ (S : Start) (ok : Sound S) (Todo : ℕ → Type 0) (t : Heap) (inv : In
         | inr n ↦ seg_apart f (s * 256 + 256 - f) p (size0 S a) (λ z. n (omega arith)) (omega arith) (inv.copied a p sa g).seg
       ]
 
-  put_blank : (w : ℕ) → owner t (w / 256) ≡ Free → get_or k w 0 ≡ 0
-  put_blank w e = pt.words w (word_apart w p (size0 S a) (λ z. cell_used S ok Todo t inv a p sa (final_cell S t a p fin) (subst (λ (x : ℕ). owner t x ≡ Free) z e)) (cell_seg S ok Todo t inv a p sa (final_cell S t a p fin))) ∙ inv.blank w e
+  put_blank : (w : ℕ) → owner t (w / 256) ≡ None → get_or k w 0 ≡ 0
+  put_blank w e = pt.words w (word_apart w p (size0 S a) (λ z. cell_used S ok Todo t inv a p sa (final_cell S t a p fin) (subst (λ (x : ℕ). owner t x ≡ None) z e)) (cell_seg S ok Todo t inv a p sa (final_cell S t a p fin))) ∙ inv.blank w e
 
   put_body : Body S k a (rd S k p)
   put_body = record {

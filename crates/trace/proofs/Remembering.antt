@@ -9,8 +9,8 @@ use Rattle.arena.specs.Boards.{bit, with_bit, without_bit, reach, lowest_in, low
 use Rattle.arena.proofs.BoardLaws.{laws_of}
 use Rattle.trace.specs.declared.state.Plan.{Plan}
 use Rattle.trace.specs.declared.state.Trace.{Trace}
-use Rattle.trace.specs.declared.state.Fate.{Fate}
-use Rattle.trace.specs.declared.state.Fate.TheVariants.{Stay, Gone, Mark, Grey, Copy, Fresh}
+use Rattle.trace.specs.declared.deciding.Fate.{Fate}
+use Rattle.trace.specs.declared.deciding.Fate.TheVariants.{Stay, Gone, Mark, Grey, Copy, Fresh}
 use Rattle.trace.specs.Traces.{Heap, heap, acted, fate_of, referred}
 use Rattle.trace.specs.Collections.{pointed_in, nails, nailed_at}
 use Rattle.trace.specs.Remembering.{Right, Remembers}

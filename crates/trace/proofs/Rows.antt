@@ -1,5 +1,5 @@
 -- A segment as a gapless row of objects and paddings, and how a trace begins.
-use Rattle.std.proofs.Common.{◌≡◌, ℕ, zero, suc, ◌+◌, ◌*◌, ◌/◌, ◌%◌, ◌<◌, ◌≤◌, Bool, true, false, ◌&&◌, ◌||◌, eqb, ltb, ◌≢◌, ◌⊎◌, List, length, get_or, sym, refl, ap, ◌∙◌, subst, inl, inr, arith, ltb-true, ne_eqb, eqb-true}
+use Rattle.std.proofs.Common.{◌≡◌, ℕ, zero, suc, ◌+◌, ◌*◌, ◌/◌, ◌%◌, ◌<◌, ◌≤◌, Bool, true, false, ◌&&◌, ◌||◌, eqb, ltb, ◌≢◌, ◌⊎◌, List, length, get_or, sym, refl, ap, ◌∙◌, subst, inl, inr, arith, ltb-true, ne_eqb, eqb-true, Some, None}
 use native.Mathlib.Decide.{dec_lt}
 use borrow.Author.Tests.{both_ways}
 use Rattle.std.proofs.lemmas.Bool.{cases_Bool, cases_eq, and_parts, and_from, and_right, or_from, or_left, or_right, lt-ltb, eq-eqb}
@@ -8,9 +8,7 @@ use Rattle.format.specs.declared.things.Slot.TheVariants.{Reference, Number}
 use Rattle.format.specs.Meaning.{Meaning, Thing, nothing, object, forwarded, padding, thing_at, span}
 use Rattle.format.specs.Laws.{Lawful}
 use Rattle.format.proofs.Memory.{readings}
-use Rattle.arena.specs.declared.segments.Owner.{Owner}
-use Rattle.arena.specs.declared.segments.Owner.TheVariants.{Free, Pool}
-use Rattle.arena.specs.Segments.{owner_of}
+use Rattle.arena.specs.Segments.{Owner, owner_of}
 use Rattle.trace.specs.Traces.{condemns, Heap}
 use Rattle.trace.specs.Keeping.{Piece, Row, ends, piece, is_base, is_owned, ObjectAt, Leads, SlotLeads, SlotLeaf}
 use Rattle.trace.specs.Keeping.{Sound as SoundSpace}
@@ -97,9 +95,9 @@ module _ (M : Meaning) (laws : Lawful M) (m : List ℕ) (e : ℕ) where
         ]
       ]
 
-pub owner_is : (o : Owner) → is_owned o ≡ true → (p : ℕ) × (o ≡ Pool p)
-owner_is Free h = absurd (both_ways false refl h)
-owner_is (Pool p) h = (p, refl)
+pub owner_is : (o : Owner) → is_owned o ≡ true → (p : ℕ) × (o ≡ Some p)
+owner_is None h = absurd (both_ways false refl h)
+owner_is (Some p) h = (p, refl)
 
 pub self_object : (x : Thing) (l : ℕ) (ss : List Slot) → x ≡ object l ss → x ≡ object (layout_of x) (slots_of x)
 self_object x l ss e = subst (λ (z : Thing). z ≡ object (layout_of z) (slots_of z)) (sym e) refl
@@ -113,7 +111,7 @@ module _ (S : Start) (laws : Lawful S.meaning) (ar : SoundSpace S.meaning S.plan
 
   pub record Seat (q : ℕ) : Type 0 where
     pub pool : ℕ
-    pub owner : owner0 S (q / 256) ≡ Pool pool
+    pub owner : owner0 S (q / 256) ≡ Some pool
     pub base : is_base M m (q / 256 * 256 + 256) 256 (q / 256 * 256) q ≡ true
     pub within : Within M m (q / 256 * 256) (q / 256 * 256 + 256) q
     pub below : q / 256 * 256 + 256 ≤ length m
@@ -183,7 +181,7 @@ module _ (S : Start) (laws : Lawful S.meaning) (ar : SoundSpace S.meaning S.plan
     pub aims : (p : ℕ) → target t p ≡ 0
     pub targets : length t.state.targets ≡ 8
     pub low : t.state.low ≡ 0
-    pub safe : (s : ℕ) → owner0 S s ≡ Free → get_or S.plan.condemned s false ≡ false
+    pub safe : (s : ℕ) → owner0 S s ≡ None → get_or S.plan.condemned s false ≡ false
     pub marks : 32 * length t.marks ≡ length m
     pub greys : 32 * length t.greys ≡ length m
     pub unmarked : (p : ℕ) → marked t p ≡ false
@@ -191,7 +189,7 @@ module _ (S : Start) (laws : Lawful S.meaning) (ar : SoundSpace S.meaning S.plan
 
   -- the objects to scan before the rounds
   abbrev pub Outside : ℕ → Type 0
-  Outside p = Obj S p × (condemns S.plan p ≡ false) × ((o : ℕ) → owner0 S (p / 256) ≡ Pool o → leafy S o ≡ false)
+  Outside p = Obj S p × (condemns S.plan p ≡ false) × ((o : ℕ) → owner0 S (p / 256) ≡ Some o → leafy S o ≡ false)
 
   module _ (t : Heap) (fr : Fresh t) where
     own : (s : ℕ) → owner t s ≡ owner0 S s

@@ -1,40 +1,38 @@
 -- Where the next copy goes.
-use Rattle.std.proofs.Common.{◌≡◌, ℕ, zero, suc, ◌+◌, ◌-◌, ◌*◌, ◌/◌, ◌%◌, ◌<◌, ◌≤◌, false, ◌≢◌, ◌⊎◌, length, get_or, Some, sym, refl, ap, ◌∙◌, subst, inl, inr, arith}
+use Rattle.std.proofs.Common.{◌≡◌, ℕ, zero, suc, ◌+◌, ◌-◌, ◌*◌, ◌/◌, ◌%◌, ◌<◌, ◌≤◌, false, ◌≢◌, ◌⊎◌, length, get_or, Some, sym, refl, ap, ◌∙◌, subst, inl, inr, arith, None}
 use native.Mathlib.Decide.{dec_lt}
 use Rattle.std.proofs.lemmas.Bool.{cases_eq}
-use Rattle.arena.specs.declared.segments.Owner.{Owner}
-use Rattle.arena.specs.declared.segments.Owner.TheVariants.{Free, Pool}
 use Rattle.arena.specs.declared.segments.Segments.{Segments}
-use Rattle.arena.specs.Segments.{owner_of, segments_in, free_or, free_among, lowest_free}
+use Rattle.arena.specs.Segments.{Owner, owner_of, segments_in, free_or, free_among, lowest_free}
 use Rattle.trace.specs.Traces.{Heap}
 use Rattle.trace.proofs.Cells.{owner, target, Start, Room, unused, ahead, Ready}
 
-pub pool_not_free : (p : ℕ) (x : Owner) → x ≡ Pool p → x ≡ Free → ⊥
+pub pool_not_free : (p : ℕ) (x : Owner) → x ≡ Some p → x ≡ None → ⊥
 pool_not_free p x e f = let z : ◌≡◌ {A = ℕ} 0 1 = cc in absurd (omega arith)
 
-pub pool_same : (p q : ℕ) (x : Owner) → x ≡ Pool p → x ≡ Pool q → p ≡ q
+pub pool_same : (p q : ℕ) (x : Owner) → x ≡ Some p → x ≡ Some q → p ≡ q
 pool_same p q x e f = cc
 
-pub owner_cases : (o : Owner) → (o ≡ Free) ⊎ ((p : ℕ) × (o ≡ Pool p))
-owner_cases Free = inl refl
-owner_cases (Pool p) = inr (p, refl)
+pub owner_cases : (o : Owner) → (o ≡ None) ⊎ ((p : ℕ) × (o ≡ Some p))
+owner_cases None = inl refl
+owner_cases (Some p) = inr (p, refl)
 
-free_found : (k : ℕ) (g : Segments) (s r : ℕ) → free_among k g s ≡ Some r → (s ≤ r) × (r < s + k) × (owner_of g r ≡ Free)
+free_found : (k : ℕ) (g : Segments) (s r : ℕ) → free_among k g s ≡ Some r → (s ≤ r) × (r < s + k) × (owner_of g r ≡ None)
 free_found zero g s r e = absurd (let z : ◌≡◌ {A = ℕ} 0 1 = cc in omega arith)
 free_found (suc k) g s r e = go (λ z. free_found k g (s + 1) r z) (owner_of g s) refl
   where
-    go : (free_among k g (s + 1) ≡ Some r → (s + 1 ≤ r) × (r < s + 1 + k) × (owner_of g r ≡ Free)) → (o : Owner) → owner_of g s ≡ o → (s ≤ r) × (r < s + suc k) × (owner_of g r ≡ Free)
-    go rec Free f =
+    go : (free_among k g (s + 1) ≡ Some r → (s + 1 ≤ r) × (r < s + 1 + k) × (owner_of g r ≡ None)) → (o : Owner) → owner_of g s ≡ o → (s ≤ r) × (r < s + suc k) × (owner_of g r ≡ None)
+    go rec None f =
         let z : Some s ≡ Some r = subst (λ (o : Owner). free_or o s (free_among k g (s + 1)) ≡ Some r) f e in
         let y : s ≡ r = cc in
-        (omega arith, omega arith, subst (λ (x : ℕ). owner_of g x ≡ Free) y f)
-    go rec (Pool p) f =
+        (omega arith, omega arith, subst (λ (x : ℕ). owner_of g x ≡ None) y f)
+    go rec (Some p) f =
         let z : free_among k g (s + 1) ≡ Some r = subst (λ (o : Owner). free_or o s (free_among k g (s + 1)) ≡ Some r) f e in
         let n = rec z in
         (omega (arith, n.0), omega (arith, n.1), n.2)
 
 -- the lowest free segment is free, and lies in the arena
-pub lowest_is_free : (g : Segments) (len s : ℕ) → lowest_free g len ≡ Some s → (1 ≤ s) × (s < 256) × (s * 256 + 256 ≤ len) × (owner_of g s ≡ Free)
+pub lowest_is_free : (g : Segments) (len s : ℕ) → lowest_free g len ≡ Some s → (1 ≤ s) × (s < 256) × (s * 256 + 256 ≤ len) × (owner_of g s ≡ None)
 lowest_is_free g len s e =
     let f = free_found (segments_in len - 1) g 1 s e in
     (f.0, omega (arith, f.1), omega (arith, f.1, f.0), f.2)
@@ -42,11 +40,11 @@ lowest_is_free g len s e =
 -- a place for words of pool p at b: at its target, or in a free segment
 pub data Spot (t : Heap) (p b : ℕ) : Type 0 where
   onward : target t p ≡ b → 1 ≤ b % 256 → Spot t p b
-  opening : b % 256 ≡ 0 → 256 ≤ b → b / 256 * 256 + 256 ≤ length t.words → owner t (b / 256) ≡ Free → Spot t p b
+  opening : b % 256 ≡ 0 → 256 ≤ b → b / 256 * 256 + 256 ≤ length t.words → owner t (b / 256) ≡ None → Spot t p b
 
 -- the owners and targets after n words at b have become pool p's
 pub record Onto (t u : Heap) (p b n : ℕ) : Type 0 where
-  pub own_same : owner u (b / 256) ≡ Pool p
+  pub own_same : owner u (b / 256) ≡ Some p
   pub own_other : (s : ℕ) → s ≢ b / 256 → owner u s ≡ owner t s
   pub aim : target u p ≡ b + n
   pub aims : (q : ℕ) → q ≢ p → target u q ≡ target t q
@@ -65,12 +63,12 @@ module _ (S : Start) (t : Heap) (ready : Ready S t) (p b : ℕ) (spot : Spot t p
       go : Spot t p b → Placed
       go (onward e h) =
           let k = ready.owned p (rw e h) in
-          let o : owner t (b / 256) ≡ Pool p = rw (← e) k.0 in
+          let o : owner t (b / 256) ≡ Some p = rw (← e) k.0 in
           record {
             low = omega (arith, k.2);
             inside = rw (← e) k.1;
             safe = rw (← e) k.3;
-            others = λ q ne g f. ne (pool_same q p (owner t (b / 256)) (subst (λ (x : ℕ). owner t x ≡ Pool q) f (ready.owned q g).0) o);
+            others = λ q ne g f. ne (pool_same q p (owner t (b / 256)) (subst (λ (x : ℕ). owner t x ≡ Some q) f (ready.owned q g).0) o);
             free = λ v x y. ahead p (omega arith) (rw e y) (rw e h);
           }
       go (opening z low h e) =
@@ -78,7 +76,7 @@ module _ (S : Start) (t : Heap) (ready : Ready S t) (p b : ℕ) (spot : Spot t p
             low = low;
             inside = h;
             safe = ready.unused (b / 256) e;
-            others = λ q ne g f. pool_not_free q (owner t (b / 256)) (subst (λ (x : ℕ). owner t x ≡ Pool q) f (ready.owned q g).0) e;
+            others = λ q ne g f. pool_not_free q (owner t (b / 256)) (subst (λ (x : ℕ). owner t x ≡ Some q) f (ready.owned q g).0) e;
             free = λ v x y.
                 let k : v / 256 ≡ b / 256 = omega arith in
                 unused (omega arith) (omega arith) (rw k e);
@@ -86,15 +84,15 @@ module _ (S : Start) (t : Heap) (ready : Ready S t) (p b : ℕ) (spot : Spot t p
 
   -- after the copy
   module _ (u : Heap) (long : length u.words ≡ length t.words) (on : Onto t u p b n) where
-    not_ours : (s : ℕ) → owner u s ≡ Free → s ≢ b / 256
-    not_ours s e f = pool_not_free p (owner u (b / 256)) on.own_same (subst (λ (x : ℕ). owner u x ≡ Free) f e)
+    not_ours : (s : ℕ) → owner u s ≡ None → s ≢ b / 256
+    not_ours s e f = pool_not_free p (owner u (b / 256)) on.own_same (subst (λ (x : ℕ). owner u x ≡ None) f e)
 
     -- a segment in use keeps its owner
-    pub owner_onto : (s : ℕ) → owner t s ≢ Free → owner u s ≡ owner t s
+    pub owner_onto : (s : ℕ) → owner t s ≢ None → owner u s ≡ owner t s
     owner_onto s n = elim (cases_eq s (b / 256)) [ inr ne ↦ on.own_other s ne | inl e ↦ ap (owner u) e ∙ go e spot ∙ ap (owner t) (sym e) ]
       where
         go : s ≡ b / 256 → Spot t p b → owner u (b / 256) ≡ owner t (b / 256)
-        go e (onward f h) = on.own_same ∙ sym (subst (λ (x : ℕ). owner t (x / 256) ≡ Pool p) f (ready.owned p (subst (λ (x : ℕ). 1 ≤ x % 256) (sym f) h)).0)
+        go e (onward f h) = on.own_same ∙ sym (subst (λ (x : ℕ). owner t (x / 256) ≡ Some p) f (ready.owned p (subst (λ (x : ℕ). 1 ≤ x % 256) (sym f) h)).0)
         go e (opening z low h f) = absurd (n (ap (owner t) e ∙ f))
 
     pub ready_onto : length u.marks ≡ length t.marks → length u.greys ≡ length t.greys → length u.state.segments.owners ≡ 256 → length u.state.targets ≡ 8 → Ready S u

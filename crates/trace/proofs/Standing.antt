@@ -1,12 +1,11 @@
 -- After the sweep the arena is sound again, and its objects are those that were kept.
-use Rattle.std.proofs.Common.{◌≡◌, ℕ, ◌+◌, ◌-◌, ◌*◌, ◌/◌, ◌%◌, ◌<◌, ◌≤◌, Bool, true, false, ◌⊎◌, List, length, get_or, sym, refl, ap, ◌∙◌, subst, inl, inr, arith}
+use Rattle.std.proofs.Common.{◌≡◌, ℕ, ◌+◌, ◌-◌, ◌*◌, ◌/◌, ◌%◌, ◌<◌, ◌≤◌, Bool, true, false, ◌⊎◌, List, length, get_or, sym, refl, ap, ◌∙◌, subst, inl, inr, arith, Some, None}
 use borrow.Author.Tests.{both_ways}
 use Rattle.std.proofs.lemmas.Bool.{and_parts, and_from}
 use Rattle.format.specs.declared.things.Slot.{Slot}
 use Rattle.format.specs.declared.things.Slot.TheVariants.{Reference, Number}
 use Rattle.format.specs.Meaning.{Meaning, Thing, nothing, object, forwarded, padding}
 use Rattle.format.specs.Laws.{Lawful}
-use Rattle.arena.specs.declared.segments.Owner.TheVariants.{Free, Pool}
 use Rattle.arena.specs.declared.segments.Segments.{Segments}
 use Rattle.arena.specs.Segments.{owner_of}
 use Rattle.trace.specs.Traces.{condemns, Heap}
@@ -34,10 +33,10 @@ of_object x l ss e = ap is_object e
 -- S and t: the start, and the state when no grey is left and the targets are padded; k and os: words and owners after the sweep
 module _ (S : Start) (ok : Sound S) (laws : Lawful S.meaning) (t : Heap) (inv : Inv S (λ q. ⊥) t)
     (shut : (p : ℕ) → target t p ≡ 0)
-    (rows : (s p : ℕ) → owner0 S s ≡ Pool p → Row S.meaning S.space.words (s * 256 + 256) (s * 256))
-    (standing : (s p q : ℕ) → owner0 S s ≡ Pool p → Base S S.space.words (s * 256 + 256) (s * 256) q → Std S q)
+    (rows : (s p : ℕ) → owner0 S s ≡ Some p → Row S.meaning S.space.words (s * 256 + 256) (s * 256))
+    (standing : (s p q : ℕ) → owner0 S s ≡ Some p → Base S S.space.words (s * 256 + 256) (s * 256) q → Std S q)
     (based : (q : ℕ) → Std S q → Base S S.space.words (q / 256 * 256 + 256) (q / 256 * 256) q)
-    (used : (s : ℕ) → get_or S.plan.condemned s false ≡ true → (p : ℕ) × (owner0 S s ≡ Pool p))
+    (used : (s : ℕ) → get_or S.plan.condemned s false ≡ true → (p : ℕ) × (owner0 S s ≡ Some p))
     (k : List ℕ) (g' : Segments)
     (out : (j : ℕ) → Outcome S laws t.marks (get_or S.plan.condemned j false) j t.words k (owner t j) (owner_of g' j)) where
   abbrev M : Meaning
@@ -49,7 +48,7 @@ module _ (S : Start) (ok : Sound S) (laws : Lawful S.meaning) (t : Heap) (inv : 
   abbrev pub T : Start
   T = record { meaning = S.meaning; plan = S.plan; space = space k g' }
 
-  pool_of : (q : ℕ) → Std S q → (p : ℕ) × (owner0 S (q / 256) ≡ Pool p)
+  pool_of : (q : ℕ) → Std S q → (p : ℕ) × (owner0 S (q / 256) ≡ Some p)
   pool_of q h = elim (owner_cases (owner0 S (q / 256))) [ inl e ↦ absurd (ok.used q h e) | inr e ↦ e ]
 
   -- a segment of the start that is not condemned is a row still
@@ -71,14 +70,14 @@ module _ (S : Start) (ok : Sound S) (laws : Lawful S.meaning) (t : Heap) (inv : 
   shut_front : (s p : ℕ) → (f : Front S t s p) → (f.front ≡ s * 256 + 256) ⊎ (rd S m f.front ≡ padding (s * 256 + 256 - f.front))
   shut_front s p f = elim f.ends [ inl x ↦ absurd (let z = shut p in omega (arith, x.0)) | inr x ↦ x.1 ]
 
-  new_built : (s p : ℕ) → owner0 S s ≡ Free → owner t s ≡ Pool p → (f : Front S t s p) → Built S ok laws (λ q. ⊥) t inv s p f (shut_front s p f) (s * 256)
+  new_built : (s p : ℕ) → owner0 S s ≡ None → owner t s ≡ Some p → (f : Front S t s p) → Built S ok laws (λ q. ⊥) t inv s p f (shut_front s p f) (s * 256)
   new_built s p e o f = built S ok laws (λ q. ⊥) t inv s p f (shut_front s p f)
 
   -- every segment in use is a row after the sweep
-  pub rows_next : (s p : ℕ) → owner_of g' s ≡ Pool p → Row M k (s * 256 + 256) (s * 256)
+  pub rows_next : (s p : ℕ) → owner_of g' s ≡ Some p → Row M k (s * 256 + 256) (s * 256)
   rows_next s p o = go (out s)
     where
-      before : (c : get_or S.plan.condemned s false ≡ false) → owner t s ≡ Pool p → Row M m (s * 256 + 256) (s * 256)
+      before : (c : get_or S.plan.condemned s false ≡ false) → owner t s ≡ Some p → Row M m (s * 256 + 256) (s * 256)
       before c w = elim (owner_cases (owner0 S s)) [
         | inl e ↦ (let f = inv.fill.fronts s p e w in (new_built s p e w f).row)
         | inr e ↦ row_now (s * 256 + 256) (s * 256) (rows s e.0 e.1) (λ q b. (
@@ -93,12 +92,12 @@ module _ (S : Start) (ok : Sound S) (laws : Lawful S.meaning) (t : Heap) (inv : 
       go (tidy c e f) = f.row
       go (wiped c e f wz) = absurd (pool_not_free p (owner_of g' s) o e)
 
-  std_next : (q s p : ℕ) → q / 256 ≡ s → owner_of g' s ≡ Pool p → Base S k (s * 256 + 256) (s * 256) q → Std T q
+  std_next : (q s p : ℕ) → q / 256 ≡ s → owner_of g' s ≡ Some p → Base S k (s * 256 + 256) (s * 256) q → Std T q
   std_next q s p z o b =
       let r = rows_next s p o in
       let i = of_base S k (s * 256 + 256) 256 (s * 256) q (row_chain S laws k (s * 256 + 256) (s * 256) r) (omega arith) b in
       and_from (is_owned (owner_of g' (q / 256))) (is_base M k (q / 256 * 256 + 256) 256 (q / 256 * 256) q)
-      (ap is_owned (subst (λ (x : ℕ). owner_of g' x ≡ Pool p) (sym z) o)) (subst (λ (x : ℕ). is_base M k (x * 256 + 256) 256 (x * 256) q ≡ true) (sym z) i)
+      (ap is_owned (subst (λ (x : ℕ). owner_of g' x ≡ Some p) (sym z) o)) (subst (λ (x : ℕ). is_base M k (x * 256 + 256) 256 (x * 256) q ≡ true) (sym z) i)
 
   -- what was to be kept stands, and reads as it did
   pub record Stands (q : ℕ) : Type 0 where
@@ -142,7 +141,7 @@ module _ (S : Start) (ok : Sound S) (laws : Lawful S.meaning) (t : Heap) (inv : 
       safe = (inv.copied a p o.0 g).safe
 
       go : Outcome S laws t.marks (get_or S.plan.condemned (p / 256) false) (p / 256) m k (owner t (p / 256)) (owner_of g' (p / 256))
-          → (owner t (p / 256) ≡ Free) ⊎ ((q : ℕ) × (owner t (p / 256) ≡ Pool q)) → Stands p
+          → (owner t (p / 256) ≡ None) ⊎ ((q : ℕ) × (owner t (p / 256) ≡ Some q)) → Stands p
       go (tidy c e f) w = absurd (both_ways (condemns S.plan p) safe c)
       go (wiped c e f wz) w = absurd (both_ways (condemns S.plan p) safe c)
       go (calm c e f wd) (inl w) =
@@ -184,7 +183,7 @@ module _ (S : Start) (ok : Sound S) (laws : Lawful S.meaning) (t : Heap) (inv : 
     pub obj : Obj S from
     pub final : Final S t from q
 
-  comes_old : (q s p : ℕ) → owner0 S s ≡ Pool p → Base S m (s * 256 + 256) (s * 256) q → Std S q
+  comes_old : (q s p : ℕ) → owner0 S s ≡ Some p → Base S m (s * 256 + 256) (s * 256) q → Std S q
   comes_old q s p e b = standing s p q e (base_then S ok laws (λ q. ⊥) t inv (s * 256 + 256) (s * 256) (rows s p e) (λ v x. standing s p v e x) q b)
 
   pub comes : (q : ℕ) → Obj T q → Comes q
@@ -193,7 +192,7 @@ module _ (S : Start) (ok : Sound S) (laws : Lawful S.meaning) (t : Heap) (inv : 
       let w = owner_is (owner_of g' (q / 256)) c.0 in
       go w.0 w.1 (base_of S k (q / 256 * 256 + 256) 256 (q / 256 * 256) q c.1) (of_object (rd S k q) (layout0 T q) (slots0 T q) o.1) (out (q / 256))
     where
-      by_old : (p : ℕ) → owner0 S (q / 256) ≡ Pool p → condemns S.plan q ≡ false → Base S m (q / 256 * 256 + 256) (q / 256 * 256) q → is_object (rd S m q) ≡ true → Comes q
+      by_old : (p : ℕ) → owner0 S (q / 256) ≡ Some p → condemns S.plan q ≡ false → Base S m (q / 256 * 256 + 256) (q / 256 * 256) q → is_object (rd S m q) ≡ true → Comes q
       by_old p e c b i =
           let s = comes_old q (q / 256) p e b in
           elim (ok.thing q s) [
@@ -206,7 +205,7 @@ module _ (S : Start) (ok : Sound S) (laws : Lawful S.meaning) (t : Heap) (inv : 
           no_pad (away d g b) x i = object_not_padding (thing0 S q) (layout0 S q) (size0 S q) (slots0 S q) b.was x
           no_pad (still w f) x i = both_ways (is_object (rd S m q)) (ap is_object f) i
 
-      go : (p : ℕ) → owner_of g' (q / 256) ≡ Pool p → Base S k (q / 256 * 256 + 256) (q / 256 * 256) q → is_object (rd S k q) ≡ true
+      go : (p : ℕ) → owner_of g' (q / 256) ≡ Some p → Base S k (q / 256 * 256 + 256) (q / 256 * 256) q → is_object (rd S k q) ≡ true
           → Outcome S laws t.marks (get_or S.plan.condemned (q / 256) false) (q / 256) m k (owner t (q / 256)) (owner_of g' (q / 256)) → Comes q
       go p w b i (wiped c e f wz) = absurd (pool_not_free p (owner_of g' (q / 256)) w e)
       go p w b i (tidy c e f) =
@@ -253,7 +252,7 @@ module _ (S : Start) (ok : Sound S) (laws : Lawful S.meaning) (t : Heap) (inv : 
     null_next (Reference r) (Reference v) n (empty e f) = (f, f)
     null_next (Reference r) (Reference v) n (settled o f) = absurd (omega (arith, ok.low r o.0, n.0))
 
-    pub leafs_next : (q p : ℕ) → Std T q → owner_of g' (q / 256) ≡ Pool p → leafy S p ≡ true → AllFit Null (slots0 T q) (slots0 T q)
+    pub leafs_next : (q p : ℕ) → Std T q → owner_of g' (q / 256) ≡ Some p → leafy S p ≡ true → AllFit Null (slots0 T q) (slots0 T q)
     leafs_next q p h w lf =
         let c = and_parts (is_owned (owner_of g' (q / 256))) (is_base M k (q / 256 * 256 + 256) 256 (q / 256 * 256) q) h in
         let i = in_row M laws k (q / 256 * 256 + 256) 256 (q / 256 * 256) q (rows_next (q / 256) p w) c.1 in
@@ -262,7 +261,7 @@ module _ (S : Start) (ok : Sound S) (laws : Lawful S.meaning) (t : Heap) (inv : 
           | inr x ↦ subst (λ (y : Thing). AllFit Null (slots_of y) (slots_of y)) (sym x) (λ i. refl)
         ]
       where
-        calm_owner : (q2 : ℕ) → owner t (q / 256) ≡ Pool q2
+        calm_owner : (q2 : ℕ) → owner t (q / 256) ≡ Some q2
             → Outcome S laws t.marks (get_or S.plan.condemned (q / 256) false) (q / 256) m k (owner t (q / 256)) (owner_of g' (q / 256)) → p ≡ q2
         calm_owner q2 o (calm c e f wd) = pool_same p q2 (owner_of g' (q / 256)) w (e ∙ o)
         calm_owner q2 o (tidy c e f) = pool_same p q2 (owner_of g' (q / 256)) w (e ∙ o)
@@ -274,7 +273,7 @@ module _ (S : Start) (ok : Sound S) (laws : Lawful S.meaning) (t : Heap) (inv : 
             go : Final S t c.from q → AllFit Null (slots0 T q) (slots0 T q)
             go (stay e y) =
                 let o = inv.owned c.from c.obj.0 in
-                let z : p ≡ o.pool = calm_owner o.pool (subst (λ (v : ℕ). owner t (v / 256) ≡ Pool o.pool) (sym e) o.is) (out (q / 256)) in
+                let z : p ≡ o.pool = calm_owner o.pool (subst (λ (v : ℕ). owner t (v / 256) ≡ Some o.pool) (sym e) o.is) (out (q / 256)) in
                 let l = o.leaf (subst (λ (v : ℕ). leafy S v ≡ true) z lf) in
                 subst (λ (y : Thing). AllFit Null (slots_of y) (slots_of y)) (sym s.reads)
                 (λ i. null_next (get_or (slots0 S c.from) i (Number 0)) (get_or (slots_of (rd S m q)) i (Number 0)) (l i) (cleaned c.from q c.obj c.final i))
@@ -298,10 +297,10 @@ module _ (S : Start) (ok : Sound S) (laws : Lawful S.meaning) (t : Heap) (inv : 
     slots_are : (a l : ℕ) (ss : List Slot) → thing0 T a ≡ object l ss → slots0 T a ≡ ss
     slots_are a l ss e = ap slots_of e
 
-    own_before : (s p : ℕ) → owner_of g' s ≡ Pool p → owner t s ≡ Pool p
+    own_before : (s p : ℕ) → owner_of g' s ≡ Some p → owner t s ≡ Some p
     own_before s p e = go (out s)
       where
-        go : Outcome S laws t.marks (get_or S.plan.condemned s false) s m k (owner t s) (owner_of g' s) → owner t s ≡ Pool p
+        go : Outcome S laws t.marks (get_or S.plan.condemned s false) s m k (owner t s) (owner_of g' s) → owner t s ≡ Some p
         go (calm c f x wd) = sym f ∙ e
         go (tidy c f x) = sym f ∙ e
         go (wiped c f x wz) = absurd (pool_not_free p (owner_of g' s) e f)
@@ -318,12 +317,12 @@ module _ (S : Start) (ok : Sound S) (laws : Lawful S.meaning) (t : Heap) (inv : 
       blank = λ w e. still_blank w e (out (w / 256));
     }
       where
-        still_blank : (w : ℕ) → owner_of g' (w / 256) ≡ Free → Outcome S laws t.marks (get_or S.plan.condemned (w / 256) false) (w / 256) m k (owner t (w / 256)) (owner_of g' (w / 256)) → get_or k w 0 ≡ 0
+        still_blank : (w : ℕ) → owner_of g' (w / 256) ≡ None → Outcome S laws t.marks (get_or S.plan.condemned (w / 256) false) (w / 256) m k (owner t (w / 256)) (owner_of g' (w / 256)) → get_or k w 0 ≡ 0
         still_blank w z (calm c e f wd) = wd w refl ∙ inv.blank w (sym e ∙ z)
         still_blank w z (tidy c e f) = let u = used (w / 256) c in absurd (pool_not_free u.0 (owner0 S (w / 256)) u.1 (inv.fill.empty (w / 256) (sym e ∙ z)))
         still_blank w z (wiped c e f wz) = wz w refl
 
-        zero_owner : Outcome S laws t.marks (get_or S.plan.condemned 0 false) 0 m k (owner t 0) (owner_of g' 0) → owner_of g' 0 ≡ Free
+        zero_owner : Outcome S laws t.marks (get_or S.plan.condemned 0 false) 0 m k (owner t 0) (owner_of g' 0) → owner_of g' 0 ≡ None
         zero_owner (calm c e f wd) = e ∙ inv.fill.low
         zero_owner (tidy c e f) = e ∙ inv.fill.low
         zero_owner (wiped c e f wz) = e

@@ -1,5 +1,5 @@
 -- The sweep of a segment leaves what is marked, in a row again.
-use Rattle.std.proofs.Common.{◌≡◌, ℕ, zero, suc, ◌+◌, ◌-◌, ◌<◌, ◌≤◌, true, false, ltb, ◌≢◌, ◌⊎◌, List, length, get_or, sym, refl, ap, ◌∙◌, subst, inl, inr, arith}
+use Rattle.std.proofs.Common.{Bool, ◌≡◌, ℕ, zero, suc, ◌+◌, ◌-◌, ◌<◌, ◌≤◌, true, false, ltb, ◌≢◌, ◌⊎◌, List, length, get_or, sym, refl, ap, ◌∙◌, subst, inl, inr, arith}
 use borrow.Author.Tests.{both_ways}
 use Rattle.std.proofs.lemmas.Bool.{cases_Bool, cond-true, cond-false, lt-ltb, le-ltb, cases_eq}
 use Rattle.format.specs.declared.things.Head.{Head}
@@ -10,8 +10,7 @@ use Rattle.format.specs.Laws.{Lawful}
 use Rattle.arena.specs.Boards.{bit}
 use Rattle.arena.specs.Buffers.{padded_part}
 use Rattle.trace.specs.declared.sweeping.Stand.{Stand}
-use Rattle.trace.specs.declared.sweeping.Stand.TheVariants.{Kept, Loose}
-use Rattle.trace.specs.Traces.{stand_by, stood, end_of, walked, row_by, thing_swept, thing_end}
+use Rattle.trace.specs.Traces.{kept, loose, stand_by, stood, walked, row_by, thing_swept, thing_end}
 use Rattle.trace.specs.Traces.{Row as SweepRow, row as sweep_row}
 use Rattle.trace.specs.Keeping.{Piece, Row, ends, piece}
 use Rattle.trace.proofs.Cells.{slots_of, layout_of, rd, Start}
@@ -43,10 +42,6 @@ pub data Base (S : Start) (m : List ℕ) (e : ℕ) : ℕ → ℕ → Type 0 wher
 pub base_inv : (S : Start) (m : List ℕ) (e a q : ℕ) → Base S m e a q → (a < e) × ((q ≡ a) ⊎ Base S m e (a + span S.meaning (rd S m a)) q)
 base_inv S m e a q (first b l) = (l, inl refl)
 base_inv S m e a q (next b c l r) = (l, inr r)
-
-pub chain_low : (S : Start) (m : List ℕ) (e a : ℕ) → Chain S m e a → a ≤ e
-chain_low S m e a stop = omega arith
-chain_low S m e a (link b l h r) = omega arith
 
 link_real : (S : Start) (x : Thing) → Link S x → Real S.meaning x (span S.meaning x)
 link_real S x l = record { real = l.real; span = refl }
@@ -250,15 +245,15 @@ module _ (S : Start) (laws : Lawful S.meaning) where
   -- ---- the walk
 
   loose_by : (ms : List ℕ) (a e n : ℕ) (h : Head) → bit ms a ≡ false → ((s : _) × ((h ≡ Object s) × (S.meaning.size s ≡ n))) ⊎ ((((to : ℕ) × (h ≡ Forwarded n to))) ⊎ (h ≡ Padding n))
-      → stand_by ms a e S.meaning h ≡ Loose (a + n)
-  loose_by ms a e n h u (inl x) = ap (stand_by ms a e S.meaning) x.1.0 ∙ cond-false (bit ms a) (Kept (a + S.meaning.size x.0)) (Loose (a + S.meaning.size x.0)) u ∙ ap (λ (j : ℕ). Loose (a + j)) x.1.1
+      → stand_by ms a e S.meaning h ≡ loose (a + n)
+  loose_by ms a e n h u (inl x) = ap (stand_by ms a e S.meaning) x.1.0 ∙ ap (λ (b : Bool). record { end = a + S.meaning.size x.0; is_kept = b }) u ∙ ap (λ (j : ℕ). loose (a + j)) x.1.1
   loose_by ms a e n h u (inr (inl x)) = ap (stand_by ms a e S.meaning) x.1
   loose_by ms a e n h u (inr (inr x)) = ap (stand_by ms a e S.meaning) x
 
-  stood_loose : (ms : List ℕ) (m : List ℕ) (e a : ℕ) → Link S (rd S m a) → a + span S.meaning (rd S m a) ≤ e → bit ms a ≡ false → stood S.meaning m ms a e ≡ Loose (a + span S.meaning (rd S m a))
+  stood_loose : (ms : List ℕ) (m : List ℕ) (e a : ℕ) → Link S (rd S m a) → a + span S.meaning (rd S m a) ≤ e → bit ms a ≡ false → stood S.meaning m ms a e ≡ loose (a + span S.meaning (rd S m a))
   stood_loose ms m e a l h u = go (rd S m a) refl
     where
-      go : (x : Thing) → rd S m a ≡ x → stood S.meaning m ms a e ≡ Loose (a + span S.meaning (rd S m a))
+      go : (x : Thing) → rd S m a ≡ x → stood S.meaning m ms a e ≡ loose (a + span S.meaning (rd S m a))
       go nothing f = absurd (l.real f)
       go (object ly ss) f =
           let z = ap (span S.meaning) f in
@@ -271,11 +266,11 @@ module _ (S : Start) (laws : Lawful S.meaning) where
           loose_by ms a e (span S.meaning (rd S m a)) _ u (inr (inr (seen_padding S.meaning laws m a e k (subst (λ (n : ℕ). a + n ≤ e) z h) f ∙ ap Padding (sym z))))
 
   stood_kept : (ms : List ℕ) (m : List ℕ) (e a : ℕ) → rd S m a ≡ object (layout_of (rd S m a)) (slots_of (rd S m a)) → a + span S.meaning (rd S m a) ≤ e → bit ms a ≡ true
-      → stood S.meaning m ms a e ≡ Kept (a + span S.meaning (rd S m a))
+      → stood S.meaning m ms a e ≡ kept (a + span S.meaning (rd S m a))
   stood_kept ms m e a ob h u =
       let z = ap (span S.meaning) ob in
       ap (stand_by ms a e S.meaning) (seen_object S.meaning laws m a (layout_of (rd S m a)) (slots_of (rd S m a)) ob e (subst (λ (n : ℕ). a + n ≤ e) z h))
-      ∙ cond-true (bit ms a) _ _ u ∙ ap (λ (n : ℕ). Kept (a + n)) (sym z)
+      ∙ ap (λ (b : Bool). record { end = a + S.meaning.size (shape (layout_of (rd S m a)) (length (slots_of (rd S m a)))); is_kept = b }) u ∙ ap (λ (n : ℕ). kept (a + n)) (sym z)
 
   abbrev walk : List ℕ → ℕ → ℕ → SweepRow → ℕ → SweepRow
   walk ms e k r a = walked (thing_swept S.meaning ms e) (thing_end S.meaning ms e) e k r a
@@ -294,10 +289,10 @@ module _ (S : Start) (laws : Lawful S.meaning) where
     which = inl ((refl, refl), λ q b. absurd (omega (arith, (base_inv S m e e q b).0)));
   }
 
-  walk_step : (ms : List ℕ) (e k g a : ℕ) (m : List ℕ) (d : Stand) → a < e → stood S.meaning m ms a e ≡ d → walk ms e (suc k) (sweep_row m g) a ≡ walk ms e k (row_by S.meaning (sweep_row m g) a d) (end_of d)
+  walk_step : (ms : List ℕ) (e k g a : ℕ) (m : List ℕ) (d : Stand) → a < e → stood S.meaning m ms a e ≡ d → walk ms e (suc k) (sweep_row m g) a ≡ walk ms e k (row_by S.meaning (sweep_row m g) a d) (d.end)
   walk_step ms e k g a m d low f =
       cond-true (ltb a e) _ (sweep_row m g) (lt-ltb a e low)
-      ∙ ap (λ (x : Stand). walk ms e k (row_by S.meaning (sweep_row m g) a x) (end_of x)) f
+      ∙ ap (λ (x : Stand). walk ms e k (row_by S.meaning (sweep_row m g) a x) (x.end)) f
 
   pub sweep_ok : (ms : List ℕ) (e k g a : ℕ) (m : List ℕ) → e ≤ a + k → g ≤ a → e - g ≤ 256 → e ≤ length m → Chain S m e a
       → ((q : ℕ) → Base S m e a q → bit ms q ≡ true → rd S m q ≡ object (layout_of (rd S m q)) (slots_of (rd S m q)))
@@ -329,7 +324,7 @@ module _ (S : Start) (laws : Lawful S.meaning) where
           → (bit ms a ≡ true) ⊎ (bit ms a ≡ false) → Walked ms e g a m (walk ms e (suc k) (sweep_row m g) a)
       go skip keep (inl mk) =
           let s = keep tt in
-          subst (Walked ms e g a m) (sym (walk_step ms e k g a m (Kept a') low (stood_kept ms m e a (ob a (first a low) mk) h mk)))
+          subst (Walked ms e g a m) (sym (walk_step ms e k g a m (kept a') low (stood_kept ms m e a (ob a (first a low) mk) h mk)))
           (record {
             swept = swept_keep ms e g a m (pad (walk ms e k (sweep_row (pad g a m) a') a').run e (walk ms e k (sweep_row (pad g a m) a') a').words) l (omega arith) low f mk (ob a (first a low) mk) n h r s.swept;
             low = omega (arith, s.low);
@@ -338,7 +333,7 @@ module _ (S : Start) (laws : Lawful S.meaning) where
           })
       go skip keep (inr un) =
           let s = skip tt in
-          subst (Walked ms e g a m) (sym (walk_step ms e k g a m (Loose a') low (stood_loose ms m e a n h un)))
+          subst (Walked ms e g a m) (sym (walk_step ms e k g a m (loose a') low (stood_loose ms m e a n h un)))
           (record {
             swept = swept_skip ms e g a m (pad (walk ms e k (sweep_row m g) a').run e (walk ms e k (sweep_row m g) a').words) low un s.swept;
             low = s.low;

@@ -1,5 +1,5 @@
 -- The sweep of all segments.
-use Rattle.std.proofs.Common.{◌≡◌, ℕ, zero, suc, ◌+◌, ◌-◌, ◌*◌, ◌/◌, ◌<◌, ◌≤◌, Bool, true, false, eqb, ◌≢◌, ◌⊎◌, List, length, get_or, drop, set, replicate, sym, refl, ap, ◌∙◌, subst, inl, inr, arith, length-set, eq-eqb, ne_eqb}
+use Rattle.std.proofs.Common.{◌≡◌, ℕ, zero, suc, ◌+◌, ◌-◌, ◌*◌, ◌/◌, ◌<◌, ◌≤◌, Bool, true, false, eqb, ◌≢◌, ◌⊎◌, List, length, get_or, drop, set, replicate, sym, refl, ap, ◌∙◌, subst, inl, inr, arith, length-set, eq-eqb, ne_eqb, None}
 use native.Mathlib.Decide.{dec_lt}
 use borrow.Rule.Slice.PartMut.{put_mid}
 use Rattle.std.proofs.lemmas.Bool.{cases_Bool, cond-true, cond-false, le-leb, cases_eq}
@@ -8,11 +8,9 @@ use Rattle.std.proofs.lemmas.Slice.{drop-put_mid}
 use Rattle.format.specs.Meaning.{Meaning, Thing, object, reads, span}
 use Rattle.format.specs.Laws.{Lawful}
 use Rattle.format.proofs.Memory.{length_put, drop_put, get_or_put_outside, part_before}
-use Rattle.arena.specs.declared.segments.Owner.{Owner}
-use Rattle.arena.specs.declared.segments.Owner.TheVariants.{Free}
 use Rattle.arena.specs.declared.segments.Segments.{Segments}
 use Rattle.arena.specs.Boards.{bit}
-use Rattle.arena.specs.Segments.{owner_of, in_arena, freed, freed_words}
+use Rattle.arena.specs.Segments.{Owner, owner_of, in_arena, freed, freed_words}
 use Rattle.trace.specs.declared.state.Plan.{Plan}
 use Rattle.trace.specs.Traces.{swept_row, last_words, last_segments, swept_words, swept_segments}
 use Rattle.trace.specs.Traces.{Row as SweepRow}
@@ -43,7 +41,7 @@ module _ (S : Start) (laws : Lawful S.meaning) (ms : List ℕ) where
   pub data Outcome (c : Bool) (j : ℕ) (m k : List ℕ) (o p : Owner) : Type 0 where
     calm : c ≡ false → p ≡ o → Alike j m k → SameWords j m k → Outcome c j m k o p
     tidy : c ≡ true → p ≡ o → Tidy j m k → Outcome c j m k o p
-    wiped : c ≡ true → p ≡ Free → ((q : ℕ) → Base S m (j * 256 + 256) (j * 256) q → bit ms q ≡ false) → ((w : ℕ) → w / 256 ≡ j → get_or k w 0 ≡ 0) → Outcome c j m k o p
+    wiped : c ≡ true → p ≡ None → ((q : ℕ) → Base S m (j * 256 + 256) (j * 256) q → bit ms q ≡ false) → ((w : ℕ) → w / 256 ≡ j → get_or k w 0 ≡ 0) → Outcome c j m k o p
 
   alike_trans : (j : ℕ) (m k l : List ℕ) → Alike j m k → Alike j k l → Alike j m l
   alike_trans j m k l f g q a n h = let e = f q a n h in g q a (subst (Link S) (sym e) n) (subst (λ (x : Thing). q + span S.meaning x ≤ j * 256 + 256) (sym e) h) ∙ e
@@ -159,7 +157,7 @@ module _ (S : Start) (laws : Lawful S.meaning) (ms : List ℕ) where
     -- nothing was
     pub record Freed : Type 0 where
       pub words : swept_k ≡ wiped_words s k inside
-      pub segments : swept_h ≡ record { owners = set h.owners s Free }
+      pub segments : swept_h ≡ record { owners = set h.owners s None }
       pub unmarked : (q : ℕ) → Base S k (end_of_segment s) (s * 256) q → bit ms q ≡ false
 
     pub swept_cases : KeptSome ⊎ Freed
@@ -174,7 +172,7 @@ module _ (S : Start) (laws : Lawful S.meaning) (ms : List ℕ) where
             words = cond-true (in_arena (length k) s) (last_words M s last) k in_it ∙ cond-true (eqb last.run (s * 256)) (freed_words last.words s) _ e
                 ∙ ap (λ (z : List ℕ). freed_words z s) x.0.0 ∙ cond-true (in_arena (length k) s) (put_mid (s * 256) 256 k (replicate 256 0)) k in_it;
             segments = cond-true (in_arena (length k) s) (last_segments h s last) h in_it ∙ cond-true (eqb last.run (s * 256)) (freed h (length last.words) s) h e
-                ∙ ap (λ (z : List ℕ). freed h (length z) s) x.0.0 ∙ cond-true (in_arena (length k) s) (record { owners = set h.owners s Free }) h in_it;
+                ∙ ap (λ (z : List ℕ). freed h (length z) s) x.0.0 ∙ cond-true (in_arena (length k) s) (record { owners = set h.owners s None }) h in_it;
             unmarked = x.1;
           }))
     ]
@@ -202,11 +200,11 @@ module _ (S : Start) (laws : Lawful S.meaning) (ms : List ℕ) where
               (λ j ne. ap (λ (z : Segments). owner_of z j) kp.segments)
               (tidy ec (ap (λ (z : Segments). owner_of z s) kp.segments ∙ (a.coming s (omega arith)).1)
               (tidy_from s m x.words k f.chain al (record { kept = sw.kept; row = sw.row; old = sw.old; new = sw.new }))))
-          | inr fr ↦ subst (After m g y.condemned (suc s)) (sym (ap (λ (h : Segments). ground h (swept_words M x.words ms s)) fr.segments ∙ ap (ground (record { owners = set x.segments.owners s Free })) fr.words))
-              (step_past m g y.condemned s x (ground (record { owners = set x.segments.owners s Free }) (wiped_words s x.words ins)) a
-              (length_put (s * 256) 256 x.words (replicate 256 0) ins (length-replicate {A = ℕ} 256 0)) (length-set x.segments.owners s Free)
-              (λ j ne. wipe_alike s x.words ins j ne) (λ j ne. wipe_words s x.words ins j ne) (λ j ne. get_or-set_other x.segments.owners s j Free Free ne)
-              (wiped ec (get_or-set_same x.segments.owners s Free Free (omega (arith, a.many, few)))
+          | inr fr ↦ subst (After m g y.condemned (suc s)) (sym (ap (λ (h : Segments). ground h (swept_words M x.words ms s)) fr.segments ∙ ap (ground (record { owners = set x.segments.owners s None })) fr.words))
+              (step_past m g y.condemned s x (ground (record { owners = set x.segments.owners s None }) (wiped_words s x.words ins)) a
+              (length_put (s * 256) 256 x.words (replicate 256 0) ins (length-replicate {A = ℕ} 256 0)) (length-set x.segments.owners s None)
+              (λ j ne. wipe_alike s x.words ins j ne) (λ j ne. wipe_words s x.words ins j ne) (λ j ne. get_or-set_other x.segments.owners s j None None ne)
+              (wiped ec (get_or-set_same x.segments.owners s None None (omega (arith, a.many, few)))
               (λ q b. fr.unmarked q (base_on S laws m x.words (s * 256 + 256) (s * 256) al (s * 256) q (omega arith) f.chain b))
               (wipe_zero s x.words ins)))
         ]

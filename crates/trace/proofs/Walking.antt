@@ -6,12 +6,9 @@ use Rattle.format.specs.declared.things.Head.{Head}
 use Rattle.format.specs.declared.things.Head.TheVariants.{Forwarded, Padding}
 use Rattle.format.specs.Meaning.{Meaning, shape, seen, object, padding, span}
 use Rattle.format.specs.Laws.{Lawful, part}
-use Rattle.arena.specs.declared.segments.Owner.{Owner}
-use Rattle.arena.specs.declared.segments.Owner.TheVariants.{Free, Pool}
-use Rattle.arena.specs.Boards.{bit}
+use Rattle.arena.specs.Segments.{Owner}
 use Rattle.arena.proofs.BoardLaws.{laws_of}
-use Rattle.trace.specs.declared.sweeping.Stand.TheVariants.{Kept, Loose}
-use Rattle.trace.specs.Traces.{limit_of, condemns, Heap, by_object, scanned, stand_by, end_of, walked}
+use Rattle.trace.specs.Traces.{limit_of, condemns, Heap, by_object, scanned, stand_by, walked}
 use Rattle.trace.specs.Collections.{base_of, pointed, pointed_in, nails, nailed_at, nailed, all_nailed, end_at, refers, segment_scanned, segments_scanned}
 use Rattle.trace.specs.Keeping.{Row, ends, piece, is_base}
 use Rattle.trace.proofs.Cells.{slots_of, marked, rd, owner0, Start, Std, thing0, size0, layout0, slots0, Obj, stay, Held, here, away, still, Inv, Grows, Sound}
@@ -21,12 +18,9 @@ use Rattle.trace.proofs.Looking.{seen_forwarded, seen_padding, seen_object}
 use Rattle.trace.proofs.Rounding.{Went, scan_place, nail_ok}
 use Rattle.trace.proofs.Rows.{sorted, base_cases, in_row, base_first, base_later, base_passed}
 
-stand_end : (m : Meaning) (ms : List ℕ) (at limit : ℕ) (h : Head) (k : ℕ) → (h ≡ Padding k) ⊎ (((to : ℕ) × (h ≡ Forwarded k to))) → end_of (stand_by ms at limit m h) ≡ at + k
-stand_end m ms at limit h k (inl e) = ap (λ (x : Head). end_of (stand_by ms at limit m x)) e
-stand_end m ms at limit h k (inr e) = ap (λ (x : Head). end_of (stand_by ms at limit m x)) e.1
-
-object_end : (ms : List ℕ) (at n : ℕ) → end_of (cond (bit ms at) (Kept (at + n)) (Loose (at + n))) ≡ at + n
-object_end ms at n = cond_both (bit ms at) (Kept (at + n)) (Loose (at + n)) (λ x. end_of x ≡ at + n) (λ _. refl) (λ _. refl)
+stand_end : (m : Meaning) (ms : List ℕ) (at limit : ℕ) (h : Head) (k : ℕ) → (h ≡ Padding k) ⊎ (((to : ℕ) × (h ≡ Forwarded k to))) → (stand_by ms at limit m h).end ≡ at + k
+stand_end m ms at limit h k (inl e) = ap (λ (x : Head). (stand_by ms at limit m x).end) e
+stand_end m ms at limit h k (inr e) = ap (λ (x : Head). (stand_by ms at limit m x).end) e.1
 
 module _ (S : Start) (ok : Sound S) (laws : Lawful S.meaning) where
   abbrev M : Meaning
@@ -42,8 +36,8 @@ module _ (S : Start) (ok : Sound S) (laws : Lawful S.meaning) where
       go : Held S t.words a → end_at M e t a ≡ a + size0 S a
       go (here b) =
           let z = body_size S ok t.words a (rd S t.words a) b in
-          ap (λ (x : Head). end_of (stand_by t.marks a e M x)) (seen_object M laws t.words a (layout0 S a) (slots_of (rd S t.words a)) b.shape e (omega arith))
-          ∙ object_end t.marks a (M.size (shape (layout0 S a) (length (slots_of (rd S t.words a))))) ∙ ap (λ (n : ℕ). a + n) z
+          ap (λ (x : Head). (stand_by t.marks a e M x).end) (seen_object M laws t.words a (layout0 S a) (slots_of (rd S t.words a)) b.shape e (omega arith))
+          ∙ ap (λ (n : ℕ). a + n) z
       go (away d g k) = stand_end M t.marks a e (seen M (part a (e - a) t.words)) (size0 S a) (inr (d, seen_forwarded M laws t.words a e (size0 S a) h d g))
       go (still w f) = stand_end M t.marks a e (seen M (part a (e - a) t.words)) (size0 S a) (inl (seen_padding M laws t.words a e (size0 S a) h f))
 
@@ -108,7 +102,7 @@ module _ (S : Start) (ok : Sound S) (laws : Lawful S.meaning) where
 
   -- each owned segment is a row of the start's bases
   abbrev pub Rowed : Type 0
-  Rowed = (s p : ℕ) → owner0 S s ≡ Pool p → Row M m (s * 256 + 256) (s * 256)
+  Rowed = (s p : ℕ) → owner0 S s ≡ Some p → Row M m (s * 256 + 256) (s * 256)
       × ((q : ℕ) → is_base M m (s * 256 + 256) 256 (s * 256) q ≡ true → Std S q × (q / 256 ≡ s))
 
   abbrev pub to_scan : ℕ → Bool
@@ -118,10 +112,10 @@ module _ (S : Start) (ok : Sound S) (laws : Lawful S.meaning) where
   abbrev pub Scanned : ℕ → ℕ → Type 0
   Scanned k q = (j : ℕ) → j < k → to_scan j ≡ true → is_base M m (j * 256 + 256) 256 (j * 256) q ≡ false
 
-  to_scan_is : (c : Bool) (o : Owner) → (not c && refers S.plan.classes o) ≡ true → ((p : ℕ) × (o ≡ Pool p)) × (c ≡ false)
+  to_scan_is : (c : Bool) (o : Owner) → (not c && refers S.plan.classes o) ≡ true → ((p : ℕ) × (o ≡ Some p)) × (c ≡ false)
   to_scan_is true o h = absurd (both_ways false refl h)
-  to_scan_is false Free h = absurd (both_ways false refl h)
-  to_scan_is false (Pool p) h = ((p, refl), refl)
+  to_scan_is false None h = absurd (both_ways false refl h)
+  to_scan_is false (Some p) h = ((p, refl), refl)
 
   scan_segment_ok : Rowed → (Todo : ℕ → Type 0) → ((q : ℕ) → Todo q → Obj S q) → (s : ℕ) (t : Heap) → Inv S Todo t
       → Went S (λ q. Todo q × (to_scan s ≡ true → is_base M m (s * 256 + 256) 256 (s * 256) q ≡ false)) t (segment_scanned M S.plan S.space.segments t s)
@@ -238,7 +232,7 @@ module _ (S : Start) (ok : Sound S) (laws : Lawful S.meaning) where
 
   -- ---- all ambiguous words
 
-  module _ (rows : Rowed) (used : (s : ℕ) → get_or S.plan.condemned s false ≡ true → (p : ℕ) × (owner0 S s ≡ Pool p)) (Todo : ℕ → Type 0) where
+  module _ (rows : Rowed) (used : (s : ℕ) → get_or S.plan.condemned s false ≡ true → (p : ℕ) × (owner0 S s ≡ Some p)) (Todo : ℕ → Type 0) where
     abbrev nail : Heap → ℕ → Heap
     nail t w = nailed M S.plan t w
 

@@ -1,6 +1,6 @@
 -- Walks over the things of a row.
 use Rattle.std.proofs.Common.{◌≡◌, ℕ, zero, suc, ◌+◌, ◌-◌, ◌*◌, ◌<◌, ◌≤◌, cond, eqb, ltb, ◌⊎◌, List, length, drop, sym, refl, ap, ◌∙◌, inl, inr, arith}
-use Rattle.std.proofs.lemmas.Bool.{cases_lt, cond-true, cond-false, cond_both, lt-ltb, le-ltb, le-leb, eq-eqb}
+use Rattle.std.proofs.lemmas.Bool.{cases_lt, cond-true, cond-false, lt-ltb, le-ltb, le-leb, eq-eqb}
 use Rattle.std.proofs.lemmas.List.{length-take}
 use Rattle.format.specs.declared.things.Head.{Head}
 use Rattle.format.specs.declared.things.Head.TheVariants.{Nothing, Object, Forwarded, Padding}
@@ -8,11 +8,9 @@ use Rattle.format.specs.Meaning.{Meaning, extent, seen}
 use Rattle.format.specs.Laws.{part}
 use Rattle.format.proofs.Heads.{range_extent, seen_cases}
 use Rattle.arena.specs.declared.segments.Segments.{Segments}
-use Rattle.arena.specs.Boards.{bit}
 use Rattle.arena.specs.Segments.{in_arena, freed, freed_words}
 use Rattle.trace.specs.declared.sweeping.Stand.{Stand}
-use Rattle.trace.specs.declared.sweeping.Stand.TheVariants.{Kept, Loose}
-use Rattle.trace.specs.Traces.{stand_by, stood, end_of, walked, Row, row, row_by, thing_swept, thing_end, swept_row, last_words, last_segments, swept_words, swept_segments}
+use Rattle.trace.specs.Traces.{stand_by, stood, walked, Row, row, row_by, thing_swept, thing_end, swept_row, last_words, last_segments, swept_words, swept_segments}
 
 module _ {S : Type 0} (f : S → ℕ → S) (onto : S → ℕ → ℕ) (limit : ℕ) (ahead : (s : S) (at : ℕ) → at < limit → at < onto s at) where
   -- more turns than there are words left change nothing
@@ -38,19 +36,17 @@ module _ {S : Type 0} (f : S → ℕ → S) (onto : S → ℕ → ℕ) (limit : 
 
 -- a thing of a row ends past its base, and before the row does
 by_ends : (m : Meaning) (ms : List ℕ) (at limit : ℕ) (h : Head) → at < limit → (h ≡ Nothing) ⊎ ((1 ≤ extent m h) × (at + extent m h ≤ limit))
-    → (at < end_of (stand_by ms at limit m h)) × (end_of (stand_by ms at limit m h) ≤ limit)
+    → (at < (stand_by ms at limit m h).end) × ((stand_by ms at limit m h).end ≤ limit)
 by_ends m ms at limit Nothing l x = (l, omega arith)
 by_ends m ms at limit (Object s) l (inl e) = absurd (let z : ◌≡◌ {A = ℕ} 0 1 = cc in omega arith)
-by_ends m ms at limit (Object s) l (inr r) =
-    cond_both (bit ms at) (Kept (at + m.size s)) (Loose (at + m.size s)) (λ x. (at < end_of x) × (end_of x ≤ limit))
-    (λ _. (omega (arith, r.0), r.1)) (λ _. (omega (arith, r.0), r.1))
+by_ends m ms at limit (Object s) l (inr r) = (omega (arith, r.0), r.1)
 by_ends m ms at limit (Forwarded k to) l (inl e) = absurd (let z : ◌≡◌ {A = ℕ} 0 1 = cc in omega arith)
 by_ends m ms at limit (Forwarded k to) l (inr r) = (omega (arith, r.0), r.1)
 by_ends m ms at limit (Padding k) l (inl e) = absurd (let z : ◌≡◌ {A = ℕ} 0 1 = cc in omega arith)
 by_ends m ms at limit (Padding k) l (inr r) = (omega (arith, r.0), r.1)
 
 pub stood_ends : (m : Meaning) (ws ms : List ℕ) (at limit : ℕ) → at < limit
-    → (at < end_of (stood m ws ms at limit)) × (end_of (stood m ws ms at limit) ≤ limit)
+    → (at < (stood m ws ms at limit).end) × ((stood m ws ms at limit).end ≤ limit)
 stood_ends m ws ms at limit l =
     let own = part at (limit - at) ws in
     by_ends m ms at limit (seen m own) l
@@ -60,10 +56,10 @@ stood_ends m ws ms at limit l =
     ])
 
 pub step : (m : Meaning) (ms : List ℕ) (limit : ℕ) (ws : List ℕ) (run at : ℕ) (t : Stand) → at < limit → t ≡ stood m ws ms at limit
-    → walked (thing_swept m ms limit) (thing_end m ms limit) limit (limit - end_of t) (row_by m (row ws run) at t) (end_of t)
+    → walked (thing_swept m ms limit) (thing_end m ms limit) limit (limit - t.end) (row_by m (row ws run) at t) (t.end)
     ≡ walked (thing_swept m ms limit) (thing_end m ms limit) limit (limit - at) (row ws run) at
 step m ms limit ws run at t l e =
-    let f : Stand → Row = λ u. walked (thing_swept m ms limit) (thing_end m ms limit) limit (limit - end_of u) (row_by m (row ws run) at u) (end_of u) in
+    let f : Stand → Row = λ u. walked (thing_swept m ms limit) (thing_end m ms limit) limit (limit - u.end) (row_by m (row ws run) at u) (u.end) in
     ap f e ∙ turn (thing_swept m ms limit) (thing_end m ms limit) limit (λ r b h. (stood_ends m r.words ms b limit h).0) (row ws run) at l
 
 -- a segment in which nothing is marked

@@ -42,6 +42,11 @@ abbrev pub new_arena : List Class → Arena
 new_arena classes =
     record { segments = all_free; buffers = replicate 8 no_buffer; classes = classes; history = empty_history; registers = replicate 16 0; ambiguous = replicate 8 0 }
 
+-- the arena when its buffers have been closed
+abbrev pub unbuffered : Arena → Arena
+unbuffered a =
+    record { segments = a.segments; buffers = replicate 8 no_buffer; classes = a.classes; history = a.history; registers = a.registers; ambiguous = a.ambiguous }
+
 abbrev pub plan_of : Arena → ℕ → Plan
 plan_of a pools = record { condemned = condemned_by a.segments pools; classes = a.classes }
 

@@ -6,18 +6,16 @@ use Rattle.format.specs.declared.things.Head.TheVariants.{Nothing, Object, Forwa
 use Rattle.format.specs.Meaning.{Meaning, seen}
 use Rattle.format.specs.Laws.{part}
 use Rattle.arena.specs.declared.buffers.Buffer.{Buffer}
-use Rattle.arena.specs.declared.segments.Owner.{Owner}
-use Rattle.arena.specs.declared.segments.Owner.TheVariants.{Free, Pool}
 use Rattle.arena.specs.declared.segments.Segments.{Segments}
-use Rattle.arena.specs.Boards.{with_bit, ones_of}
-use Rattle.arena.specs.Segments.{owner_of, segments_in}
+use Rattle.arena.specs.Boards.{ones_of}
+use Rattle.arena.specs.Segments.{Owner, owner_of, segments_in}
 use Rattle.arena.specs.Buffers.{no_buffer, padded_part}
 use Rattle.location.specs.Locations.{zone_bit}
 use Rattle.trace.specs.declared.state.Class.{Class}
 use Rattle.trace.specs.declared.state.Class.TheVariants.{Amc, Ams, Lo}
 use Rattle.trace.specs.declared.state.Plan.{Plan}
 use Rattle.trace.specs.declared.state.Trace.{Trace}
-use Rattle.trace.specs.Traces.{limit_of, condemns, rest, target_of, lowered, Heap, heap, fixed, fix_answer, scanned, rounded, stood, end_of, walked, swept_words, swept_segments}
+use Rattle.trace.specs.Traces.{limit_of, condemns, rest, target_of, Heap, heap, marked, greyed, fixed, fix_answer, scanned, rounded, stood, walked, swept_words, swept_segments}
 
 -- ---- closing all buffers
 
@@ -35,12 +33,20 @@ all_buffers_closed m bs ws = buffers_closed m bs ws 8
 -- ---- condemning
 
 abbrev pub in_set : ℕ → Owner → Bool
-in_set pools Free = false
-in_set pools (Pool p) = nat_lt p 8 && pools / 2 ^ p % 2 == 1
+in_set pools None = false
+in_set pools (Some p) = nat_lt p 8 && pools / 2 ^ p % 2 == 1
 
 -- A segment is condemned if it belongs to a pool of the set.
 unfoldable pub condemned_by : Segments → ℕ → List Bool
 condemned_by g pools = map (λ s. in_set pools (owner_of g s)) (range_with_len 0 256)
+
+-- the class of a pool, and of the pool whose a segment is
+abbrev pub class_in : List Class → ℕ → Option Class
+class_in classes p = cond (nat_lt p 8) (Some (slice_index_or classes p Amc)) None
+
+abbrev pub class_of_owner : List Class → Owner → Option Class
+class_of_owner classes None = None
+class_of_owner classes (Some p) = class_in classes p
 
 abbrev pub is_amc : Class → Bool
 is_amc Amc = true
@@ -53,8 +59,8 @@ is_lo Ams = false
 is_lo Lo = true
 
 abbrev pub moves : List Class → Owner → Bool
-moves classes Free = false
-moves classes (Pool p) = nat_lt p 8 && is_amc (slice_index_or classes p Amc)
+moves classes None = false
+moves classes (Some p) = nat_lt p 8 && is_amc (slice_index_or classes p Amc)
 
 -- the zone of segment s, if it is a condemned AMC segment
 abbrev pub zone_if : Plan → Segments → ℕ → ℕ
@@ -80,7 +86,7 @@ base_of (Padding k) at = None
 abbrev pub pointed : Meaning → List ℕ → List ℕ → ℕ → ℕ → ℕ → ℕ → Option ℕ
 pointed m ws ms limit w zero at = None
 pointed m ws ms limit w (suc k) at =
-    cond (nat_lt at limit) (cond (nat_lt w (end_of (stood m ws ms at limit))) (base_of (seen m (part at (limit - at) ws)) at) (pointed m ws ms limit w k (end_of (stood m ws ms at limit)))) None
+    cond (nat_lt at limit) (cond (nat_lt w ((stood m ws ms at limit).end)) (base_of (seen m (part at (limit - at) ws)) at) (pointed m ws ms limit w k ((stood m ws ms at limit).end))) None
 
 abbrev pub pointed_in : Meaning → List ℕ → List ℕ → ℕ → ℕ → ℕ → Option ℕ
 pointed_in m ws ms base limit w = pointed m ws ms limit w (limit - base) base
@@ -89,9 +95,13 @@ pointed_in m ws ms base limit w = pointed m ws ms limit w (limit - base) base
 abbrev pub nails : Plan → ℕ → ℕ → Bool
 nails y len w = not (nat_lt w 256 || nat_lt 65535 w) && (nat_le (limit_of w) len && condemns y w)
 
+-- the base of the object into which w points, if that is in a condemned segment
+abbrev pub nail_of : Meaning → Plan → Heap → ℕ → Option ℕ
+nail_of m y v w = cond (nails y (length v.words) w) (pointed_in m v.words v.marks (w / 256 * 256) (w / 256 * 256 + 256) w) None
+
 abbrev pub nailed_at : Heap → Option ℕ → Heap
 nailed_at v None = v
-nailed_at v (Some a) = heap (lowered v.state a) v.words (with_bit v.marks a) (with_bit v.greys a)
+nailed_at v (Some a) = greyed (marked v a) a
 
 -- the object into which w points is marked and grey
 abbrev pub nailed : Meaning → Plan → Heap → ℕ → Heap
@@ -128,15 +138,15 @@ all_roots m y x = roots_fixed m y x 16
 -- ---- segments that were in use and are not condemned
 
 abbrev pub end_at : Meaning → ℕ → Heap → ℕ → ℕ
-end_at m limit v at = end_of (stood m v.words v.marks at limit)
+end_at m limit v at = (stood m v.words v.marks at limit).end
 
 -- the things of a row, by address
 abbrev pub row_scanned : Meaning → Plan → Heap → ℕ → ℕ → Heap
 row_scanned m y v base limit = walked (scanned m y) (end_at m limit) limit (limit - base) v base
 
 abbrev pub refers : List Class → Owner → Bool
-refers classes Free = false
-refers classes (Pool p) = nat_lt p 8 && not (is_lo (slice_index_or classes p Amc))
+refers classes None = false
+refers classes (Some p) = nat_lt p 8 && not (is_lo (slice_index_or classes p Amc))
 
 -- LO is skipped.
 abbrev pub segment_scanned : Meaning → Plan → Segments → Heap → ℕ → Heap

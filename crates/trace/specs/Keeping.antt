@@ -4,11 +4,9 @@ use Rattle.format.specs.declared.things.Slot.{Slot}
 use Rattle.format.specs.declared.things.Slot.TheVariants.{Reference, Number}
 use Rattle.format.specs.Laws.{Lawful}
 use Rattle.format.specs.Meaning.{Meaning, Thing, nothing, object, forwarded, padding, thing_at, span}
-use Rattle.arena.specs.declared.segments.Owner.{Owner}
-use Rattle.arena.specs.declared.segments.Owner.TheVariants.{Free, Pool}
 use Rattle.arena.specs.declared.segments.Segments.{Segments}
 use Rattle.arena.specs.Boards.{bit}
-use Rattle.arena.specs.Segments.{owner_of}
+use Rattle.arena.specs.Segments.{Owner, owner_of}
 use Rattle.trace.specs.declared.state.Class.{Class}
 use Rattle.trace.specs.declared.state.Class.TheVariants.{Amc}
 use Rattle.trace.specs.declared.state.Plan.{Plan}
@@ -45,8 +43,8 @@ is_base m ws e zero a q = false
 is_base m ws e (suc k) a q = nat_lt a e && (a == q || is_base m ws e k (a + span m (thing_at m ws a)) q)
 
 abbrev pub is_owned : Owner → Bool
-is_owned Free = false
-is_owned (Pool p) = true
+is_owned None = false
+is_owned (Some p) = true
 
 -- q is the base of a thing in an owned segment
 abbrev pub stands : Meaning → Space → ℕ → Bool
@@ -78,14 +76,14 @@ pub record Sound (m : Meaning) (classes : List Class) (x : Space) : Type 0 where
   pub whole : (length x.words % 256 ≡ 0) × (length x.words ≤ 65536) × (length x.words ≤ m.greatest_address + 1)
   -- Segment 0 is nobody's; an owned segment lies in the arena and is a row.
   pub owners : length x.segments.owners ≡ 256
-  pub first : owner_of x.segments 0 ≡ Free
-  pub owned : (s p : ℕ) → owner_of x.segments s ≡ Pool p → (p < 8) × (s * 256 + 256 ≤ length x.words)
-  pub rows : (s p : ℕ) → owner_of x.segments s ≡ Pool p → Row m x.words (s * 256 + 256) (s * 256)
+  pub first : owner_of x.segments 0 ≡ None
+  pub owned : (s p : ℕ) → owner_of x.segments s ≡ Some p → (p < 8) × (s * 256 + 256 ≤ length x.words)
+  pub rows : (s p : ℕ) → owner_of x.segments s ≡ Some p → Row m x.words (s * 256 + 256) (s * 256)
   -- A reference is null or leads to an object; in a leaf pool it is null.
   pub leads : (a l i : ℕ) (ss : List Slot) → ObjectAt m x a l ss → SlotLeads m x (slice_index_or ss i (Number 0))
-  pub leaves : (a l i p : ℕ) (ss : List Slot) → ObjectAt m x a l ss → owner_of x.segments (a / 256) ≡ Pool p → is_lo (slice_index_or classes p Amc) ≡ true → SlotLeaf (slice_index_or ss i (Number 0))
+  pub leaves : (a l i p : ℕ) (ss : List Slot) → ObjectAt m x a l ss → owner_of x.segments (a / 256) ≡ Some p → is_lo (slice_index_or classes p Amc) ≡ true → SlotLeaf (slice_index_or ss i (Number 0))
   -- The words of free segments are 0.
-  pub blank : (w : ℕ) → owner_of x.segments (w / 256) ≡ Free → slice_index x.words w ≡ 0
+  pub blank : (w : ℕ) → owner_of x.segments (w / 256) ≡ None → slice_index x.words w ≡ 0
 
 -- ---- fates
 

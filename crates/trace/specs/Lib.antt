@@ -3,3 +3,4 @@ pub mod Collections
 pub mod Collect
 pub mod Keeping
 pub mod Remembering
+pub mod Lent

@@ -1,5 +1,5 @@
 -- The trace: fix, scan, rounds and sweep.
-use Rattle.std.specs.Prelude.{◌≡◌, ℕ, zero, suc, ◌+◌, ◌-◌, ◌*◌, ◌/◌, ◌%◌, ◌<◌, ◌≤◌, min, Bool, false, cond, not, ◌&&◌, ◌||◌, List, length, Some, None, Option, ◌==◌, nat_le, nat_lt, slice_index, slice_index_or, slice_set}
+use Rattle.std.specs.Prelude.{◌≡◌, ℕ, zero, suc, ◌+◌, ◌-◌, ◌*◌, ◌/◌, ◌%◌, ◌<◌, ◌≤◌, min, Bool, true, false, cond, not, ◌&&◌, ◌||◌, List, length, Some, None, Option, ◌==◌, nat_le, nat_lt, slice_index, slice_index_or, slice_set}
 use borrow.Rule.Slice.PartMut.{put_mid}
 use Rattle.format.specs.declared.things.Shape.{Shape}
 use Rattle.format.specs.declared.things.Head.{Head}
@@ -8,20 +8,17 @@ use Rattle.format.specs.declared.things.Slot.{Slot}
 use Rattle.format.specs.declared.things.Slot.TheVariants.{Reference, Number}
 use Rattle.format.specs.Meaning.{Meaning, seen}
 use Rattle.format.specs.Laws.{part, rewritten}
-use Rattle.arena.specs.declared.segments.Owner.{Owner}
-use Rattle.arena.specs.declared.segments.Owner.TheVariants.{Free, Pool}
 use Rattle.arena.specs.declared.segments.Segments.{Segments}
 use Rattle.arena.specs.Boards.{bit, with_bit, without_bit, lowest_bit}
-use Rattle.arena.specs.Segments.{owner_of, owned, lowest_free, freed, freed_words, in_arena}
+use Rattle.arena.specs.Segments.{Owner, owner_of, owned, lowest_free, freed, freed_words, in_arena}
 use Rattle.arena.specs.Buffers.{padded_part}
 use Rattle.trace.specs.declared.state.Class.{Class}
 use Rattle.trace.specs.declared.state.Class.TheVariants.{Amc, Ams, Lo}
 use Rattle.trace.specs.declared.state.Plan.{Plan}
 use Rattle.trace.specs.declared.state.Trace.{Trace}
 use Rattle.trace.specs.declared.sweeping.Stand.{Stand}
-use Rattle.trace.specs.declared.sweeping.Stand.TheVariants.{Kept, Loose}
-use Rattle.trace.specs.declared.state.Fate.{Fate}
-use Rattle.trace.specs.declared.state.Fate.TheVariants.{Stay, Gone, Mark, Grey, Copy, Fresh}
+use Rattle.trace.specs.declared.deciding.Fate.{Fate}
+use Rattle.trace.specs.declared.deciding.Fate.TheVariants.{Stay, Gone, Mark, Grey, Copy, Fresh}
 
 -- the end of the segment of a
 abbrev pub limit_of : ℕ → ℕ
@@ -61,8 +58,8 @@ by_class t len p n Ams = Grey
 by_class t len p n Lo = Mark
 
 abbrev pub by_owner : Plan → Trace → ℕ → ℕ → Owner → Fate
-by_owner y t len n Free = Stay
-by_owner y t len n (Pool p) = cond (nat_lt p 8) (by_class t len p n (class_of y p)) Stay
+by_owner y t len n None = Stay
+by_owner y t len n (Some p) = cond (nat_lt p 8) (by_class t len p n (class_of y p)) Stay
 
 abbrev pub by_head : Meaning → Plan → Trace → ℕ → ℕ → Head → Fate
 by_head m y t len a Nothing = Stay
@@ -139,11 +136,18 @@ copied m v p a n to = heap (copied_state v.state p n to) (copied_words m v.words
 abbrev pub taken : Meaning → Heap → ℕ → ℕ → Heap
 taken m v p s = heap (taken_state v.state p s) (taken_words m v.state v.words p) v.marks v.greys
 
+-- the object at a is marked; it is grey
+abbrev pub marked : Heap → ℕ → Heap
+marked v a = heap v.state v.words (with_bit v.marks a) v.greys
+
+abbrev pub greyed : Heap → ℕ → Heap
+greyed v a = heap (lowered v.state a) v.words v.marks (with_bit v.greys a)
+
 abbrev pub acted : Meaning → Heap → ℕ → Fate → Heap
 acted m v a Stay = v
 acted m v a (Gone to) = v
-acted m v a Mark = heap v.state v.words (with_bit v.marks a) v.greys
-acted m v a Grey = heap (lowered v.state a) v.words (with_bit v.marks a) (with_bit v.greys a)
+acted m v a Mark = marked v a
+acted m v a Grey = greyed (marked v a) a
 acted m v a (Copy p n to) = copied m v p a n to
 acted m v a (Fresh p n s) = copied m (taken m v p s) p a n (s * 256)
 
@@ -211,20 +215,23 @@ rounded m y (suc k) v = next v (λ a. rounded m y k (turned m y v a)) (lowest_bi
 
 -- ---- the sweep of a segment
 
+-- a thing that ends at e, and is a marked object or is not
+abbrev pub kept : ℕ → Stand
+kept e = record { end = e; is_kept = true }
+
+abbrev pub loose : ℕ → Stand
+loose e = record { end = e; is_kept = false }
+
 -- of the thing at `at` in a row that ends at `limit`: where it ends, and whether it is a marked object;
 -- what is no thing is taken for the rest of the row
 abbrev pub stand_by : List ℕ → ℕ → ℕ → Meaning → Head → Stand
-stand_by ms at limit m Nothing = Loose limit
-stand_by ms at limit m (Object s) = cond (bit ms at) (Kept (at + m.size s)) (Loose (at + m.size s))
-stand_by ms at limit m (Forwarded k to) = Loose (at + k)
-stand_by ms at limit m (Padding k) = Loose (at + k)
+stand_by ms at limit m Nothing = loose limit
+stand_by ms at limit m (Object s) = record { end = at + m.size s; is_kept = bit ms at }
+stand_by ms at limit m (Forwarded k to) = loose (at + k)
+stand_by ms at limit m (Padding k) = loose (at + k)
 
 abbrev pub stood : Meaning → List ℕ → List ℕ → ℕ → ℕ → Stand
 stood m ws ms at limit = stand_by ms at limit m (seen m (part at (limit - at) ws))
-
-abbrev pub end_of : Stand → ℕ
-end_of (Kept e) = e
-end_of (Loose e) = e
 
 -- a walk over at most k things of a row: what is done at each, and where the next begins
 abbrev pub walked : {S : Type 0} → (S → ℕ → S) → (S → ℕ → ℕ) → ℕ → ℕ → S → ℕ → S
@@ -241,14 +248,13 @@ row ws run = record { words = ws; run = run }
 
 -- a marked object ends a run, which becomes one padding
 abbrev pub row_by : Meaning → Row → ℕ → Stand → Row
-row_by m r at (Kept e) = row (padded_part m r.run at r.words) e
-row_by m r at (Loose e) = r
+row_by m r at t = cond t.is_kept (row (padded_part m r.run at r.words) t.end) r
 
 abbrev pub thing_swept : Meaning → List ℕ → ℕ → Row → ℕ → Row
 thing_swept m ms limit r at = row_by m r at (stood m r.words ms at limit)
 
 abbrev pub thing_end : Meaning → List ℕ → ℕ → Row → ℕ → ℕ
-thing_end m ms limit r at = end_of (stood m r.words ms at limit)
+thing_end m ms limit r at = (stood m r.words ms at limit).end
 
 -- the things from base to limit, all but the last run
 abbrev pub swept_row : Meaning → List ℕ → List ℕ → ℕ → ℕ → Row

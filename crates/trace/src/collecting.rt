@@ -1,131 +1,96 @@
-// The collection of a set of pools.
-ghost use Rattle.std.specs.Prelude.{◌≡◌, ◌+◌, ◌*◌, ◌<◌, ◌≤◌, length};
-ghost use Rattle.trace.specs.Traces.{heap};
+// What follows the roots: the segments that are not condemned, the targets' rests, and the sweep.
+ghost use Rattle.std.specs.Prelude.{◌≡◌, ◌+◌, ◌*◌, ◌≤◌, length};
 ghost use Rattle.trace.specs.Collections.{row_scanned, refers, segment_scanned, all_scanned, all_targets_closed, ground, segment_swept, all_swept, value_of};
+ghost use Rattle.trace.specs.Lent.{contents, HeapStaysLent};
 
-use crate::deciding::rest_of;
-use crate::scanning::scan;
-use crate::state::{Class, Plan, Trace};
-use crate::sweeping::{end_of, stand_at, sweep};
-use arena::{Owner, Segments, count_ones, pad_part};
+use crate::fixing::pad_rest;
+use crate::heap::Heap;
+use crate::state::{Class, Plan, Trace, Tracer};
+use crate::sweeping::sweep;
+use arena::{Owner, Segments, count_ones};
 use format::Format;
 
-// Scans the things of a row, by address.
-fn scan_row<F: Format>(
-    format: &F,
-    plan: &Plan,
-    trace: &mut Trace,
-    words: &mut [u32],
-    marks: &mut [u32],
-    greys: &mut [u32],
-    base: usize,
-    limit: usize,
-)
-    requires { (base ≤ limit) × (limit ≤ length words.old) }
-    ensures { heap trace.new words.new marks.new greys.new ≡ row_scanned (F.Format.meaning format.now) plan.now (heap trace.old words.old marks.old greys.old) base limit }
-{
-    let mut at = base;
-    while at < limit {
-        let end = end_of(stand_at(format, words, marks, at, limit));
-        scan(format, plan, trace, words, marks, greys, at);
-        at = end;
+impl Plan {
+    // Whether the owner of a segment has objects that hold references.
+    fn has_references(&self, owner: Owner) -> bool
+        ensures { result ≡ refers self.now.classes owner }
+    {
+        matches!(self.class_of(owner), Some(Class::Amc | Class::Ams))
     }
 }
 
-// Whether the owner of a segment has objects that hold references.
-fn has_references(classes: &[Class; 8], owner: Owner) -> bool
-    ensures { result ≡ refers classes.now owner }
-{
-    match owner {
-        Owner::Free => false,
-        Owner::Pool(pool) => {
-            if pool >= 8 {
-                return false;
-            }
-            match classes[pool as usize] {
-                Class::Amc => true,
-                Class::Ams => true,
-                Class::Lo => false,
-            }
+impl<F: Format> Tracer<'_, F> {
+    // Scans the things of a row, by address.
+    fn scan_row(&self, heap: &mut Heap<'_>, base: usize, limit: usize)
+        requires { (base ≤ limit) × (limit ≤ length heap.old.words.now) }
+        ensures after { contents heap.new ≡ row_scanned (F.Format.meaning self.now.format.now) self.now.plan.now (contents heap.old) base limit }
+        ensures lent { HeapStaysLent heap.old heap.new }
+    {
+        let mut at = base;
+        while at < limit {
+            let end = self.end_at(heap, at, limit);
+            self.scan(heap, at);
+            at = end;
+        }
+    }
+
+    // Scans a segment that was in use and is not condemned.
+    fn scan_segment(&self, heap: &mut Heap<'_>, used: &Segments, segment: u8)
+        requires { segment * 256 + 256 ≤ length heap.old.words.now }
+        ensures after { contents heap.new ≡ segment_scanned (F.Format.meaning self.now.format.now) self.now.plan.now used.now (contents heap.old) segment }
+        ensures lent { HeapStaysLent heap.old heap.new }
+    {
+        let plan = self.plan;
+        if !plan.condemned[segment as usize] && plan.has_references(used.owner(segment)) {
+            let base = segment as usize * 256;
+            self.scan_row(heap, base, base + 256);
+        }
+    }
+
+    #[tactic(auto, using(crate::proofs::Loops::next_scanned), unfolding(crate::specs::Collections::all_scanned))]
+    pub(crate) fn scan_segments(&self, heap: &mut Heap<'_>, used: &Segments)
+        ensures after { contents heap.new ≡ all_scanned (F.Format.meaning self.now.format.now) self.now.plan.now used.now (contents heap.old) }
+        ensures lent { HeapStaysLent heap.old heap.new }
+    {
+        for s in 0..(heap.words.len() / 256).min(256) {
+            self.scan_segment(heap, used, s as u8);
         }
     }
 }
 
-// Scans a segment that was in use and is not condemned.
-fn scan_segment<F: Format>(
-    format: &F,
-    plan: &Plan,
-    used: &Segments,
-    trace: &mut Trace,
-    words: &mut [u32],
-    marks: &mut [u32],
-    greys: &mut [u32],
-    segment: u8,
-)
-    requires { segment * 256 + 256 ≤ length words.old }
-    ensures { heap trace.new words.new marks.new greys.new ≡ segment_scanned (F.Format.meaning format.now) plan.now used.now (heap trace.old words.old marks.old greys.old) segment }
-{
-    let base = segment as usize * 256;
-    if !plan.condemned[segment as usize] && has_references(&plan.classes, used.owner(segment)) {
-        scan_row(format, plan, trace, words, marks, greys, base, base + 256);
-    }
-}
-
-pub(crate) fn scan_segments<F: Format>(
-    format: &F,
-    plan: &Plan,
-    used: &Segments,
-    trace: &mut Trace,
-    words: &mut [u32],
-    marks: &mut [u32],
-    greys: &mut [u32],
-)
-    ensures { heap trace.new words.new marks.new greys.new ≡ all_scanned (F.Format.meaning format.now) plan.now used.now (heap trace.old words.old marks.old greys.old) }
-{
-    let n = (words.len() / 256).min(256);
-    for s in 0..n {
-        scan_segment(format, plan, used, trace, words, marks, greys, s as u8);
-    }
-}
-
 // Pads the rest of each pool's target.
+#[tactic(auto, using(crate::proofs::Loops::next_target), unfolding(crate::specs::Collections::all_targets_closed))]
 pub(crate) fn close_targets<F: Format>(format: &F, trace: &Trace, words: &mut [u32])
     ensures { words.new ≡ all_targets_closed (F.Format.meaning format.now) trace.now words.old }
 {
-    for p in 0..8 {
-        let at = trace.targets[p];
-        pad_part(format, words, at as usize, at as usize + rest_of(at));
+    for at in &trace.targets {
+        pad_rest(format, words, *at);
     }
 }
 
-fn sweep_condemned<F: Format>(
-    format: &F,
-    plan: &Plan,
-    segments: &mut Segments,
-    words: &mut [u32],
-    marks: &[u32],
-    segment: u8,
-)
-    ensures { ground segments.new words.new ≡ segment_swept (F.Format.meaning format.now) plan.now marks.now (ground segments.old words.old) segment }
-{
-    if plan.condemned[segment as usize] {
-        sweep(format, segments, words, marks, segment);
+impl<F: Format> Tracer<'_, F> {
+    fn sweep_condemned(
+        &self,
+        segments: &mut Segments,
+        words: &mut [u32],
+        marks: &[u32],
+        segment: u8,
+    )
+        ensures { ground segments.new words.new ≡ segment_swept (F.Format.meaning self.now.format.now) self.now.plan.now marks.now (ground segments.old words.old) segment }
+    {
+        if self.plan.condemned[segment as usize] {
+            sweep(self.format, segments, words, marks, segment);
+        }
     }
-}
 
-// Sweeps the condemned segments.
-pub(crate) fn sweep_segments<F: Format>(
-    format: &F,
-    plan: &Plan,
-    segments: &mut Segments,
-    words: &mut [u32],
-    marks: &[u32],
-)
-    ensures { ground segments.new words.new ≡ all_swept (F.Format.meaning format.now) plan.now marks.now (ground segments.old words.old) }
-{
-    let n = (words.len() / 256).min(256);
-    for s in 0..n {
-        sweep_condemned(format, plan, segments, words, marks, s as u8);
+    // Sweeps the condemned segments.
+    #[tactic(auto, using(crate::proofs::Loops::next_swept), unfolding(crate::specs::Collections::all_swept))]
+    pub(crate) fn sweep_segments(&self, segments: &mut Segments, words: &mut [u32], marks: &[u32])
+        ensures { ground segments.new words.new ≡ all_swept (F.Format.meaning self.now.format.now) self.now.plan.now marks.now (ground segments.old words.old) }
+    {
+        for s in 0..(words.len() / 256).min(256) {
+            self.sweep_condemned(segments, words, marks, s as u8);
+        }
     }
 }
 

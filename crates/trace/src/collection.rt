@@ -1,27 +1,31 @@
 // The collection of a set of pools.
 ghost use Rattle.std.specs.Prelude.{◌≡◌, ◌+◌, length, replicate};
-ghost use Rattle.trace.specs.Collections.{value_of};
-ghost use Rattle.trace.specs.Collect.{fits, held, performed, collected, outcome};
+ghost use Rattle.trace.specs.Collections.{all_buffers_closed, value_of};
+ghost use Rattle.trace.specs.Collect.{fits, held, unbuffered, plan_of, performed, collected, outcome};
 ghost use Rattle.trace.specs.Remembering.{Remembers};
 ghost use Rattle.trace.specs.Keeping.{NewArenasSound, CollectionsKeep};
+ghost use Rattle.trace.specs.Lent.{held_in, StaysLent};
 
-use crate::collecting::{sweep_segments, value};
-use crate::rooting::{close_buffers, condemn, condemned_zones};
-use crate::state::{Arena, Plan, Trace};
-use crate::tracing::trace_roots;
-use arena::{Buffer, clear_all};
+use crate::collecting::value;
+use crate::heap::{Heap, Memory};
+use crate::rooting::condemn;
+use crate::state::{Arena, Plan, Trace, Tracer};
+use arena::{Buffer, clear_all, pad_part};
 use format::{Format, Refusal};
 
-// Whether words and boards have lengths that go together.
-fn are_lengths<F: Format>(format: &F, words: usize, marks: usize, greys: usize) -> bool
-    ensures { result ≡ fits (F.Format.meaning format.now) words marks greys }
-{
-    words % 256 == 0
-        && 1024 <= words
-        && words <= 65536
-        && words <= format.address_limit() as usize + 1
-        && marks == words / 32
-        && greys == words / 32
+impl Memory<'_> {
+    // Whether words and boards have lengths that go together.
+    fn fits<F: Format>(&self, format: &F) -> bool
+        ensures { result ≡ fits (F.Format.meaning format.now) (length self.now.words.now) (length self.now.marks.now) (length self.now.greys.now) }
+    {
+        let words = self.words.len();
+        words % 256 == 0
+            && 1024 <= words
+            && words <= 65536
+            && words <= format.address_limit() as usize + 1
+            && self.marks.len() == words / 32
+            && self.greys.len() == words / 32
+    }
 }
 
 // The value of a collection, counted before the boards are cleared.
@@ -36,72 +40,93 @@ fn tally(moved: u32, marks: &mut [u32], greys: &mut [u32]) -> u32
     value
 }
 
-// Traces what is condemned, sweeps it, and clears the boards.
-fn perform<F: Format>(
-    format: &F,
-    plan: &Plan,
-    arena: &mut Arena,
-    words: &mut [u32],
-    marks: &mut [u32],
-    greys: &mut [u32],
-) -> u32
-    ensures { outcome result (held arena.new words.new marks.new greys.new) ≡ performed (F.Format.meaning format.now) plan.now (held arena.old words.old marks.old greys.old) }
-{
-    close_buffers(format, words, &arena.buffers);
-    arena.buffers = [Buffer { init: 0, limit: 0 }; 8];
-    let mut trace = Trace::new(arena.segments);
-    trace_roots(
-        format,
-        plan,
-        &mut trace,
-        words,
-        marks,
-        greys,
-        &arena.ambiguous,
-        &mut arena.registers,
-    );
-    arena.segments = trace.segments;
-    sweep_segments(format, plan, &mut arena.segments, words, marks);
-    tally(trace.moved, marks, greys)
-}
-
-// Refuses, or ages the dependencies and collects.
-fn collect_pools<F: Format>(
-    format: &F,
-    arena: &mut Arena,
-    words: &mut [u32],
-    marks: &mut [u32],
-    greys: &mut [u32],
-    pools: u8,
-) -> Result<u32, Refusal>
-    ensures { outcome result (held arena.new words.new marks.new greys.new) ≡ collected (F.Format.meaning format.now) (held arena.old words.old marks.old greys.old) pools }
-{
-    if !are_lengths(format, words.len(), marks.len(), greys.len()) {
-        return Err(Refusal::WrongLength);
+impl<F: Format> Tracer<'_, F> {
+    // Traces what is condemned, sweeps it, and clears the boards.
+    fn perform(
+        &self,
+        arena: &mut Arena,
+        words: &mut [u32],
+        marks: &mut [u32],
+        greys: &mut [u32],
+    ) -> u32
+        ensures { outcome result (held arena.new words.new marks.new greys.new) ≡ performed (F.Format.meaning self.now.format.now) self.now.plan.now (held arena.old words.old marks.old greys.old) }
+    {
+        arena.close_buffers(self.format, words);
+        let mut heap = Heap {
+            state: Trace::new(arena.segments),
+            words,
+            marks,
+            greys,
+        };
+        self.trace_roots(&mut heap, &arena.ambiguous, &mut arena.registers);
+        let Trace {
+            segments,
+            moved,
+            ..
+        } = heap.state;
+        arena.segments = segments;
+        self.sweep_segments(&mut arena.segments, words, marks);
+        tally(moved, marks, greys)
     }
-    let plan = Plan {
-        condemned: condemn(&arena.segments, pools),
-        classes: arena.classes,
-    };
-    let zones = condemned_zones(&plan, &arena.segments);
-    arena.history.age(zones)?;
-    Ok(perform(format, &plan, arena, words, marks, greys))
 }
 
-// Collects a set of pools, bit p for pool p. The answer is 65,536 times the objects moved plus the
-// objects kept in place.
-pub fn collect<F: Format>(
-    format: &F,
-    arena: &mut Arena,
-    words: &mut [u32],
-    marks: &mut [u32],
-    greys: &mut [u32],
-    pools: u8,
-) -> Result<u32, Refusal>
-    ensures outcome { outcome result (held arena.new words.new marks.new greys.new) ≡ collected (F.Format.meaning format.now) (held arena.old words.old marks.old greys.old) pools }
-    ensures remembers { Remembers }
-    ensures begins { NewArenasSound }
-    ensures keeps { CollectionsKeep }
-{
-    collect_pools(format, arena, words, marks, greys, pools)
+impl Arena {
+    // Closes the buffers of all allocation points: there are none then.
+    #[tactic(auto, using(crate::proofs::Loops::next_buffer), unfolding(crate::specs::Collections::all_buffers_closed))]
+    fn close_buffers<F: Format>(&mut self, format: &F, words: &mut [u32])
+        ensures words { words.new ≡ all_buffers_closed (F.Format.meaning format.now) self.old.buffers words.old }
+        ensures arena { self.new ≡ unbuffered self.old }
+    {
+        for buffer in &self.buffers {
+            pad_part(format, words, buffer.init, buffer.limit);
+        }
+        self.buffers = [Buffer::default(); 8];
+    }
+
+    // What a collection of a set of pools does not change.
+    fn plan(&self, pools: u8) -> Plan
+        ensures { result ≡ plan_of self.now pools }
+    {
+        Plan {
+            condemned: condemn(&self.segments, pools),
+            classes: self.classes,
+        }
+    }
+
+    // Refuses, or ages the dependencies and collects.
+    fn collect_pools<F: Format>(
+        &mut self,
+        format: &F,
+        memory: &mut Memory<'_>,
+        pools: u8,
+    ) -> Result<u32, Refusal>
+        ensures outcome { outcome result (held_in self.new memory.new) ≡ collected (F.Format.meaning format.now) (held_in self.old memory.old) pools }
+        ensures lent { StaysLent memory.old memory.new }
+    {
+        if !memory.fits(format) {
+            return Err(Refusal::WrongLength);
+        }
+        let plan = &self.plan(pools);
+        let zones = plan.condemned_zones(&self.segments);
+        self.history.age(zones)?;
+        let tracer = Tracer { format, plan };
+        Ok(tracer.perform(self, memory.words, memory.marks, memory.greys))
+    }
+
+    // Collects a set of pools, bit p for pool p. The answer is 65,536 times the objects moved plus the
+    // objects kept in place.
+    pub fn collect<F: Format>(
+        &mut self,
+        format: &F,
+        memory: &mut Memory<'_>,
+        pools: u8,
+    ) -> Result<u32, Refusal>
+        ensures outcome { outcome result (held_in self.new memory.new) ≡ collected (F.Format.meaning format.now) (held_in self.old memory.old) pools }
+        ensures lent { StaysLent memory.old memory.new }
+        ensures remembers { Remembers }
+        ensures begins { NewArenasSound }
+        ensures keeps { CollectionsKeep }
+    {
+        self.collect_pools(format, memory, pools)
+    }
 }

@@ -1,12 +1,13 @@
 // What a trace works on, besides the words and the boards.
-ghost use Rattle.std.specs.Prelude.{◌≡◌};
+ghost use Rattle.std.specs.Prelude.{◌≡◌, ◌+◌, ◌*◌, ◌/◌, ◌<◌, ◌≤◌, true};
+ghost use Rattle.trace.specs.Collections.{class_in, class_of_owner, nails};
 ghost use Rattle.trace.specs.Collect.{new_arena, untraced};
 
-use arena::{Buffer, Segments};
+use arena::{Buffer, Owner, Segments};
 use location::History;
 
 // The class of a pool: AMC moves objects, AMS marks them in place, LO marks objects without references.
-#[derive(Clone, Copy)]
+#[derive(Clone, Copy, PartialEq, Eq, Debug)]
 pub enum Class {
     Amc,
     Ams,
@@ -20,6 +21,14 @@ pub struct Plan {
     pub classes: [Class; 8],
 }
 
+// A trace of every object format: its format, and the plan that it keeps to.
+#[derive(Drop)]
+#[derive_where(Clone, Copy)]
+pub struct Tracer<'a, F> {
+    pub format: &'a F,
+    pub plan: &'a Plan,
+}
+
 // What it does change: the owners of segments; where each pool's target segment has its next word, 0
 // where there is none; how many objects have moved; and an address below which nothing is grey.
 #[derive(Clone, Copy)]
@@ -28,6 +37,30 @@ pub struct Trace {
     pub targets: [u32; 8],
     pub moved: u32,
     pub low: usize,
+}
+
+impl Plan {
+    // The class of a pool, if there is such a pool.
+    pub(crate) fn class(&self, pool: u8) -> Option<Class>
+        ensures { result ≡ class_in self.now.classes pool }
+    {
+        self.classes.get(pool as usize).copied()
+    }
+
+    // The class of the pool whose a segment is.
+    pub(crate) fn class_of(&self, owner: Owner) -> Option<Class>
+        ensures { result ≡ class_of_owner self.now.classes owner }
+    {
+        owner.and_then(|pool| self.class(pool))
+    }
+
+    // Whether an address lies in a condemned segment of the arena.
+    pub(crate) fn is_condemned(&self, len: usize, a: usize) -> bool
+        ensures which { result ≡ nails self.now len a }
+        ensures fits { result ≡ true → (a < 65536) × (a / 256 * 256 + 256 ≤ len) }
+    {
+        256 <= a && a <= 65535 && a / 256 * 256 + 256 <= len && self.condemned[a / 256]
+    }
 }
 
 impl Trace {
@@ -42,17 +75,6 @@ impl Trace {
             low: 0,
         }
     }
-}
-
-// What becomes of the object at a reference.
-#[derive(Clone, Copy)]
-pub enum Fate {
-    Stay,
-    Gone(u32),
-    Mark,
-    Grey,
-    Copy { pool: u8, size: usize, to: u32 },
-    Fresh { pool: u8, size: usize, segment: u8 },
 }
 
 // What a collection works on, besides the words and the boards: the owners of segments, the buffers of
@@ -75,7 +97,7 @@ impl Arena {
     {
         Arena {
             segments: Segments::new(),
-            buffers: [Buffer { init: 0, limit: 0 }; 8],
+            buffers: [Buffer::default(); 8],
             classes,
             history: History::new(),
             registers: [0; 16],

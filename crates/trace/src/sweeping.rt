@@ -2,24 +2,25 @@
 // segment without marked objects is freed.
 ghost use Rattle.std.specs.Prelude.{◌≡◌, ◌+◌, ◌^◌, ◌<◌, ◌≤◌, length};
 ghost use Rattle.format.specs.Meaning.{extent};
-ghost use Rattle.trace.specs.Traces.{stand_by, stood, end_of, row, swept_row, swept_words, swept_segments};
+ghost use Rattle.trace.specs.Traces.{loose, stand_by, stood, row, swept_row, swept_words, swept_segments};
 
-use arena::{Segments, free, is_set, pad_part};
+use arena::{Segments, is_set, pad_part};
 use format::{Format, Head, look};
 
-// Where a thing of a row ends, and whether it is kept.
-#[derive(Clone, Copy)]
-pub(crate) enum Stand {
-    Kept(usize),
-    Loose(usize),
+// Where a thing of a row ends, and whether it is a marked object, which is kept.
+#[derive(Clone, Copy, PartialEq, Eq, Debug)]
+pub(crate) struct Stand {
+    pub(crate) end: usize,
+    pub(crate) is_kept: bool,
 }
 
-pub(crate) fn end_of(stand: Stand) -> usize
-    ensures { result ≡ end_of stand }
+// That of a thing which is not kept.
+fn loose(end: usize) -> Stand
+    ensures { result ≡ loose end }
 {
-    match stand {
-        Stand::Kept(end) => end,
-        Stand::Loose(end) => end,
+    Stand {
+        end,
+        is_kept: false,
     }
 }
 
@@ -28,17 +29,13 @@ fn stand_of<F: Format>(format: &F, marks: &[u32], at: usize, limit: usize, head:
     ensures { result ≡ stand_by marks.now at limit (F.Format.meaning format.now) head }
 {
     match head {
-        Head::Nothing => Stand::Loose(limit),
-        Head::Object(shape) => {
-            let end = at + format.size(shape);
-            if is_set(marks, at) {
-                Stand::Kept(end)
-            } else {
-                Stand::Loose(end)
-            }
-        }
-        Head::Forwarded { size, .. } => Stand::Loose(at + size),
-        Head::Padding { size } => Stand::Loose(at + size),
+        Head::Nothing => loose(limit),
+        Head::Object(shape) => Stand {
+            end: at + format.size(shape),
+            is_kept: is_set(marks, at),
+        },
+        Head::Forwarded { size, .. } => loose(at + size),
+        Head::Padding { size } => loose(at + size),
     }
 }
 
@@ -51,7 +48,7 @@ pub(crate) fn stand_at<F: Format>(
 ) -> Stand
     requires { (at < limit) × (limit ≤ length words.now) }
     ensures which { result ≡ stood (F.Format.meaning format.now) words.now marks.now at limit }
-    ensures fits { (at < end_of result) × (end_of result ≤ limit) }
+    ensures fits { (at < result.end) × (result.end ≤ limit) }
 {
     stand_of(format, marks, at, limit, look(format, &words[at..limit]))
 }
@@ -70,16 +67,12 @@ fn sweep_row<F: Format>(
     let mut run = base;
     let mut at = base;
     while at < limit {
-        match stand_at(format, words, marks, at, limit) {
-            Stand::Kept(end) => {
-                pad_part(format, words, run, at);
-                run = end;
-                at = end;
-            }
-            Stand::Loose(end) => {
-                at = end;
-            }
+        let thing = stand_at(format, words, marks, at, limit);
+        if thing.is_kept {
+            pad_part(format, words, run, at);
+            run = thing.end;
         }
+        at = thing.end;
     }
     run
 }
@@ -100,7 +93,7 @@ pub fn sweep<F: Format>(
     if limit <= words.len() {
         let run = sweep_row(format, words, marks, base, limit);
         if run == base {
-            free(segments, words, segment);
+            segments.free(words, segment);
         } else {
             pad_part(format, words, run, limit);
         }

@@ -1,33 +1,30 @@
 // The trace from the roots up to the sweep.
 ghost use Rattle.std.specs.Prelude.{◌≡◌};
-ghost use Rattle.trace.specs.Traces.{heap};
 ghost use Rattle.trace.specs.Collections.{rooted, traced};
+ghost use Rattle.trace.specs.Lent.{contents, HeapStaysLent};
 
-use crate::collecting::{close_targets, scan_segments};
-use crate::rooting::{fix_registers, nail_all};
-use crate::scanning::rounds;
-use crate::state::{Plan, Trace};
+use crate::collecting::close_targets;
+use crate::heap::Heap;
+use crate::state::Tracer;
 use format::Format;
 
-// Nails what ambiguous words point into, fixes the registers and what is not condemned, scans while
-// something is grey, and pads the rests of the targets.
-pub(crate) fn trace_roots<F: Format>(
-    format: &F,
-    plan: &Plan,
-    trace: &mut Trace,
-    words: &mut [u32],
-    marks: &mut [u32],
-    greys: &mut [u32],
-    ambiguous: &[u32; 8],
-    registers: &mut [u32; 16],
-)
-    ensures { rooted registers.new (heap trace.new words.new marks.new greys.new) ≡ traced (F.Format.meaning format.now) plan.now ambiguous.now (rooted registers.old (heap trace.old words.old marks.old greys.old)) }
-{
-    let used = trace.segments;
-    nail_all(format, plan, trace, words, marks, greys, ambiguous);
-    fix_registers(format, plan, trace, words, marks, greys, registers);
-    scan_segments(format, plan, &used, trace, words, marks, greys);
-    let n = words.len();
-    rounds(format, plan, trace, words, marks, greys, n);
-    close_targets(format, trace, words);
+impl<F: Format> Tracer<'_, F> {
+    // Nails what ambiguous words point into, fixes the registers and what is not condemned, scans while
+    // something is grey, and pads the rests of the targets.
+    pub(crate) fn trace_roots(
+        &self,
+        heap: &mut Heap<'_>,
+        ambiguous: &[u32; 8],
+        registers: &mut [u32; 16],
+    )
+        ensures after { rooted registers.new (contents heap.new) ≡ traced (F.Format.meaning self.now.format.now) self.now.plan.now ambiguous.now (rooted registers.old (contents heap.old)) }
+        ensures lent { HeapStaysLent heap.old heap.new }
+    {
+        let used = heap.state.segments;
+        self.nail_all(heap, ambiguous);
+        self.fix_registers(heap, registers);
+        self.scan_segments(heap, &used);
+        self.rounds(heap, heap.words.len());
+        close_targets(self.format, &heap.state, heap.words);
+    }
 }

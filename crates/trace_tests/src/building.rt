@@ -1,193 +1,219 @@
-// How the arena of a test is built, collected and looked at.
-use arena::{Buffer, Owner, Segments, pad_part};
+// How a store of a test is built, collected and looked at.
+use arena::pad_part;
 use format::{Format, Head, Refusal, Shape, Slot, extent, look, make, read, set_slot};
-use location::History;
 use std::process::Abort;
 use std::test::Fail;
-use trace::{Arena, Class, collect};
+use trace::{Arena, Class, Memory};
 
-// What is said of a segment that is nobody's.
-pub const NOBODY: u8 = 255;
+// Pools 0 and 1 are AMC, pool 2 is AMS and pool 3 is LO.
+const CLASSES: [Class; 8] = [
+    Class::Amc,
+    Class::Amc,
+    Class::Ams,
+    Class::Lo,
+    Class::Amc,
+    Class::Amc,
+    Class::Amc,
+    Class::Amc,
+];
 
-// ---- building
-
-// An arena of free segments. Pools 0 and 1 are AMC, pool 2 is AMS and pool 3 is LO.
-pub fn new_arena() -> Arena {
-    Arena {
-        segments: Segments::new(),
-        buffers: [Buffer { init: 0, limit: 0 }; 8],
-        classes: [
-            Class::Amc,
-            Class::Amc,
-            Class::Ams,
-            Class::Lo,
-            Class::Amc,
-            Class::Amc,
-            Class::Amc,
-            Class::Amc,
-        ],
-        history: History::new(),
-        registers: [0; 16],
-        ambiguous: [0; 8],
-    }
+// An arena under test and its words, with their format and what an assertion asks for.
+#[derive_where(Clone, Copy)]
+pub struct Store<'a, R, F, const N: usize> {
+    pub rt: &'a R,
+    pub format: &'a F,
+    pub arena: Arena,
+    pub words: [u32; N],
 }
 
-// The shape of an object whose first slots may hold references and whose other slots numbers.
-fn shape_with<F: Format>(format: &F, references: u8, n: u8) -> Shape {
-    let counted = Shape {
-        layout: references,
-        n,
-    };
-    if format.admits(counted) {
-        counted
-    } else {
-        Shape { layout: 0, n }
-    }
+// Runs a check on a new store of each format: a macro, since no closure is generic over the format.
+macro_rules! in_each_format {
+    ($rt:expr, $check:path) => {{
+        $check($crate::building::Store::new($rt, &formats::Counted))?;
+        $check($crate::building::Store::new($rt, &formats::Tagged))
+    }};
 }
 
-// Makes an object of so many words. Its first slots hold references; its last slot, if there is one
-// more, the number of its address.
-pub fn put<F: Format>(
-    rt: &impl Abort,
-    format: &F,
-    words: &mut [u32],
-    at: usize,
-    size: usize,
-    references: &[u32],
-) -> Result<(), Fail> {
-    assert!(rt; size <= 128 && references.len() < size);
-    assert!(rt; at <= 65_535 && at + size <= words.len());
-    let own = &mut words[at..at + size];
-    let shape = shape_with(format, references.len() as u8, (size - 1) as u8);
-    make(format, own, shape)?;
-    for (i, to) in (0..127u8).zip(references.iter()) {
-        set_slot(format, own, i, Slot::Reference(*to))?;
-    }
-    if references.len() + 1 < size {
-        set_slot(format, own, (size - 2) as u8, Slot::Number(at as u32))?;
-    }
-    Ok(())
-}
-
-// Gives a segment to a pool, and pads it behind its first words.
-pub fn give<F: Format>(
-    format: &F,
-    arena: &mut Arena,
-    words: &mut [u32],
-    segment: u8,
-    pool: u8,
-    used: usize,
-) {
-    let base = segment as usize * 256;
-    arena.segments.give(segment, pool);
-    pad_part(format, words, base + used.min(256), base + 256);
-}
-
-// ---- collecting
-
-// Every word is the same.
-pub fn check_all(rt: &impl Abort, name: &str, words: &[u32], all: u32) {
-    for word in words {
-        assert_eq!(rt; *word, all, "{name}");
-    }
-}
-
-// Collects, and looks that the boards are clear.
-pub fn run_on<F: Format>(
-    rt: &impl Abort,
-    format: &F,
-    arena: &mut Arena,
-    words: &mut [u32],
-    marks: &mut [u32],
-    greys: &mut [u32],
-    pools: u8,
-) -> Result<u32, Fail> {
-    let value = collect(format, arena, words, marks, greys, pools)?;
-    check_all(rt, "marks", marks, 0);
-    check_all(rt, "greys", greys, 0);
-    Ok(value)
-}
-
-// Collects over clear boards.
-pub fn run<F: Format>(
-    rt: &impl Abort,
-    format: &F,
-    arena: &mut Arena,
-    words: &mut [u32],
-    pools: u8,
-) -> Result<u32, Fail> {
-    let n = words.len() / 32;
-    let mut marks = [0; 64];
-    let mut greys = [0; 64];
-    assert!(rt; n <= 64);
-    run_on(
-        rt,
-        format,
-        arena,
-        words,
-        &mut marks[0..n],
-        &mut greys[0..n],
-        pools,
-    )
-}
-
-// ---- looking
-
-pub fn object<F: Format>(format: &F, references: u8, n: u8) -> Head {
-    Head::Object(shape_with(format, references, n))
-}
+pub(crate) use in_each_format;
 
 pub fn padding(size: usize) -> Head {
     Head::Padding { size }
 }
 
-// The pool whose a segment is.
-pub fn pool_of(arena: &Arena, segment: u8) -> u8 {
-    match arena.segments.owner(segment) {
-        Owner::Free => NOBODY,
-        Owner::Pool(pool) => pool,
+// Every word is the same.
+pub fn check_all(rt: &impl Abort, name: &str, words: &[u32], all: u32) {
+    for &word in words {
+        assert_eq!(rt; word, all, "{name}");
     }
 }
 
-// A segment is nobody's, and all its words are 0.
-pub fn check_free(rt: &impl Abort, arena: &Arena, words: &[u32], segment: u8) {
-    let base = segment as usize * 256;
-    assert!(rt; base + 256 <= words.len());
-    assert_eq!(rt; pool_of(arena, segment), NOBODY);
-    assert_eq!(rt; &words[base..base + 256], &[0; 256][..]);
-}
+impl<'a, R: Abort, F: Format, const N: usize> Store<'a, R, F, N> {
+    // ---- building
 
-// What stands in a segment, to its end.
-pub fn check_row<F: Format>(rt: &impl Abort, format: &F, words: &[u32], segment: u8, row: &[Head]) {
-    let limit = segment as usize * 256 + 256;
-    let mut at = segment as usize * 256;
-    for head in row {
-        assert!(rt; at <= limit && limit <= words.len());
-        let found = read(format, &words[at..limit]);
-        assert_eq!(rt; found, *head, "at {at}");
-        let size = extent(format, found);
-        assert!(rt; size <= 256);
-        at += size;
+    // Every segment is free, and every word is 0.
+    pub fn new(rt: &'a R, format: &'a F) -> Store<'a, R, F, N> {
+        Store {
+            rt,
+            format,
+            arena: Arena::new(CLASSES),
+            words: [0; N],
+        }
     }
-    assert_eq!(rt; at, limit);
-}
 
-fn slot_of<F: Format>(format: &F, words: &[u32], i: u8) -> Slot {
-    match look(format, words) {
-        Head::Object(shape) => format.slot(words, shape, i),
-        Head::Nothing | Head::Forwarded { .. } | Head::Padding { .. } => Slot::Number(0),
+    // The shape of an object whose first slots may hold references and whose other slots numbers.
+    fn shape(&self, references: u8, n: u8) -> Shape {
+        let counted = Shape {
+            layout: references,
+            n,
+        };
+        if self.format.admits(counted) {
+            counted
+        } else {
+            Shape { layout: 0, n }
+        }
     }
-}
 
-// Slot i of the object at an address.
-pub fn check_slot<F: Format>(
-    rt: &impl Abort,
-    format: &F,
-    words: &[u32],
-    at: usize,
-    i: u8,
-    slot: Slot,
-) {
-    assert!(rt; at <= words.len());
-    assert_eq!(rt; slot_of(format, &words[at..], i), slot, "slot {i} at {at}");
+    // Makes an object of so many words. Its first slots hold references; its last slot, if there is
+    // one more, the number of its address.
+    pub fn put(&mut self, address: u32, size: usize, references: &[u32]) -> Result<(), Fail> {
+        let at = address as usize;
+        assert!(self.rt; size <= 128 && references.len() < size);
+        assert!(self.rt; at + size <= N);
+        let shape = self.shape(references.len() as u8, (size - 1) as u8);
+        let words = &mut self.words[..];
+        let own = &mut words[at..at + size];
+        make(self.format, own, shape)?;
+        for (i, &to) in (0..127u8).zip(references) {
+            set_slot(self.format, own, i, Slot::Reference(to))?;
+        }
+        if references.len() + 1 < size {
+            set_slot(self.format, own, (size - 2) as u8, Slot::Number(address))?;
+        }
+        Ok(())
+    }
+
+    // Makes objects without references, each of an address and so many words, in registers 0, 1 and
+    // so on.
+    pub fn put_in_registers(&mut self, objects: &[(u32, usize)]) -> Result<(), Fail> {
+        for &(address, size) in objects {
+            self.put(address, size, &[])?;
+        }
+        for (register, &(address, _)) in self.arena.registers.iter_mut().zip(objects) {
+            *register = address;
+        }
+        Ok(())
+    }
+
+    // Gives a segment to a pool, and pads it behind its first words.
+    pub fn give(&mut self, segment: u8, pool: u8, used: usize) {
+        let base = segment as usize * 256;
+        self.arena.segments.give(segment, pool);
+        pad_part(
+            self.format,
+            &mut self.words,
+            base + used.min(256),
+            base + 256,
+        );
+    }
+
+    // ---- collecting
+
+    // Collects over the first words alone.
+    pub fn collect_part(
+        &mut self,
+        len: usize,
+        marks: &mut [u32],
+        greys: &mut [u32],
+        pools: u8,
+    ) -> Result<u32, Refusal> {
+        assert!(self.rt; len <= N);
+        let memory = &mut Memory {
+            words: &mut self.words[..len],
+            marks,
+            greys,
+        };
+        self.arena.collect(self.format, memory, pools)
+    }
+
+    // Collects over boards that hold one word, and looks that they are clear then.
+    pub fn collect_over(&mut self, stray: u32, pools: u8) -> Result<u32, Refusal> {
+        let n = N / 32;
+        assert!(self.rt; n <= 64);
+        let mut marks = [stray; 64];
+        let mut greys = [stray; 64];
+        let value = self.collect_part(N, &mut marks[..n], &mut greys[..n], pools)?;
+        check_all(self.rt, "marks", &marks[..n], 0);
+        check_all(self.rt, "greys", &greys[..n], 0);
+        Ok(value)
+    }
+
+    // What a collection over clear boards answers.
+    pub fn check_collection(&mut self, pools: u8, value: u32) {
+        assert_eq!(self.rt; self.collect_over(0, pools), Ok(value));
+    }
+
+    // ---- looking
+
+    pub fn object(&self, references: u8, n: u8) -> Head {
+        Head::Object(self.shape(references, n))
+    }
+
+    // What the first registers hold.
+    pub fn check_registers(&self, registers: &[u32]) {
+        assert!(self.rt; registers.len() <= 16);
+        assert_eq!(self.rt; &self.arena.registers[..registers.len()], registers);
+    }
+
+    // The pool whose a segment is, if it is not free.
+    pub fn check_owner(&self, segment: u8, owner: Option<u8>) {
+        assert_eq!(self.rt;
+            self.arena.segments.owner(segment),
+            owner,
+            "segment {segment}"
+        );
+    }
+
+    // The words of a segment.
+    fn segment(&self, segment: u8) -> &[u32] {
+        let base = segment as usize * 256;
+        assert!(self.rt; base + 256 <= N);
+        let words = &self.words[..];
+        &words[base..base + 256]
+    }
+
+    // A segment is free, and all its words are 0.
+    pub fn check_free(&self, segment: u8) {
+        self.check_owner(segment, None);
+        check_all(self.rt, "free words", self.segment(segment), 0);
+    }
+
+    // What stands in a segment, to its end.
+    pub fn check_row(&self, segment: u8, row: &[Head]) {
+        let mut rest = self.segment(segment);
+        for &head in row {
+            let left = rest.len();
+            assert_eq!(self.rt;
+                read(self.format, rest),
+                head,
+                "{left} words before the end"
+            );
+            let size = extent(self.format, head);
+            assert!(self.rt; size <= left);
+            rest = &rest[size..];
+        }
+        assert!(self.rt; rest.is_empty());
+    }
+
+    // Slot i of the object at an address, if there is one.
+    fn slot(&self, address: u32, i: u8) -> Option<Slot> {
+        let words = self.words.get(address as usize..)?;
+        match look(self.format, words) {
+            Head::Object(shape) => Some(self.format.slot(words, shape, i)),
+            _ => None,
+        }
+    }
+
+    pub fn check_slot(&self, address: u32, i: u8, slot: Slot) {
+        assert_eq!(self.rt; self.slot(address, i), Some(slot), "slot {i} at {address}");
+    }
 }

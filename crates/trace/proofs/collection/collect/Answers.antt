@@ -1,7 +1,0 @@
-use Rattle.trace.proofs.Newness.{new_arenas_sound}
-use Rattle.trace.proofs.Remembering.{remembers}
-use Rattle.trace.proofs.Law.{collections_keep}
-use Rattle.trace.proofs.collection.collect.Goals as goal
-
-pub returns : goal.returns
-returns g c = record { outcome = c.collect_pools.ensures; remembers = remembers; begins = new_arenas_sound; keeps = collections_keep }

@@ -1,6 +1,0 @@
-use Rattle.std.proofs.Common.{◌≡◌}
-use Rattle.trace.specs.Collections.{buffers_closed}
-use Rattle.trace.proofs.rooting.close_buffers.Given as goal
-
-abbrev pub invariant-loop-i : goal.invariant-loop-i
-invariant-loop-i g l = l.words ≡ buffers_closed (g.F.Format.meaning l.format) l.buffers l.initial.words l.i
