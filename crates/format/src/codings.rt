@@ -1,5 +1,6 @@
 // Formats of a header word and a word for each slot after it: a coding of single words is a format.
-ghost use Rattle.std.specs.Prelude.{◌≡◌, ℕ};
+ghost use Rattle.std.specs.Prelude.{◌≡◌, ℕ, refl};
+ghost use Rattle.std.proofs.Common.{sym};
 ghost use Rattle.format.specs.Words.{Coding, coded};
 ghost use Rattle.format.specs.Laws.{Lawful};
 
@@ -53,17 +54,19 @@ pub trait WordCoding {
 }
 
 impl<C: WordCoding> Format for C {
+    const GREATEST_NUMBER: u32 = C::GREATEST_NUMBER;
+
+    const GREATEST_ADDRESS: u32 = 65_535;
+
+    ghost GREATEST_NUMBER = { C.GREATEST_NUMBER };
+
+    ghost GREATEST_ADDRESS = { 65535 };
+
     ghost meaning = { λ _. coded C.coding };
 
+    ghost limits = { λ _. (sym C.greatest, refl) };
+
     ghost lawful = { λ _. C.lawful };
-
-    fn number_limit(&self) -> u32 {
-        C::GREATEST_NUMBER
-    }
-
-    fn address_limit(&self) -> u32 {
-        65_535
-    }
 
     fn admits(&self, shape: Shape) -> bool {
         C::admits(shape)

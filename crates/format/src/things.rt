@@ -1,5 +1,5 @@
 // Objects and their slots, and what a format says and does.
-ghost use Rattle.std.specs.Prelude.{◌≡◌};
+ghost use Rattle.std.specs.Prelude.{◌≡◌, ℕ};
 ghost use Rattle.format.specs.Meaning.{Meaning, longest, may_count, may_refer};
 ghost use Rattle.format.specs.Laws.{Lawful};
 
@@ -68,15 +68,16 @@ impl Kind {
 // An object format. Its functions look at single words and write without asking: `look`, `read`,
 // `make`, `set_slot`, `forward` and `pad` are built on them once for every format, and refuse.
 pub trait Format {
+    const GREATEST_NUMBER: u32;
+
+    const GREATEST_ADDRESS: u32;
+
+    // The constants, as contracts name them.
+    ghost GREATEST_NUMBER: { ℕ };
+
+    ghost GREATEST_ADDRESS: { ℕ };
+
     ghost meaning: { Self → Meaning };
-
-    // The greatest number and the greatest address, by methods and not by constants, since a format
-    // may be a choice of two and its value then says which.
-    fn number_limit(&self) -> u32
-        ensures { result ≡ (meaning self.now).greatest_number };
-
-    fn address_limit(&self) -> u32
-        ensures { result ≡ (meaning self.now).greatest_address };
 
     // Whether there are objects of this shape.
     fn admits(&self, shape: Shape) -> bool
@@ -113,6 +114,8 @@ pub trait Format {
     // Makes the words one padding.
     fn write_padding(&self, own: &mut [u32])
         ensures { own.new ≡ (meaning self.now).padded own.old };
+
+    ghost limits: { (f : Self) → ((meaning f).greatest_number ≡ GREATEST_NUMBER) × ((meaning f).greatest_address ≡ GREATEST_ADDRESS) };
 
     ghost lawful: { (f : Self) → Lawful (meaning f) };
 }

@@ -22,7 +22,7 @@ impl Memory<'_> {
         words % 256 == 0
             && 1024 <= words
             && words <= 65536
-            && words <= format.address_limit() as usize + 1
+            && words <= F::GREATEST_ADDRESS as usize + 1
             && self.marks.len() == words / 32
             && self.greys.len() == words / 32
     }
