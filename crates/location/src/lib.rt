@@ -2,7 +2,7 @@
 #![tactic(auto)]
 
 ghost use Rattle.std.specs.Prelude.{◌≡◌};
-ghost use Rattle.location.specs.Locations.{zone_of, zone_bit, empty_history, age_answer, age_after, reset_to, entered, aged_since, is_stale, NeverMisses};
+ghost use Rattle.location.specs.Locations.{zone_of, zone_bit, empty_history, joined_to, age_answer, age_after, reset_to, entered, aged_since, is_stale, NeverMisses};
 
 use format::Refusal;
 
@@ -42,6 +42,13 @@ pub fn zone_set(address: u32) -> u32
     1 << zone(address)
 }
 
+// The recent sets, with the zones joined to each.
+fn joined_to(sets: [u32; DEPTH], zones: u32) -> [u32; DEPTH]
+    ensures { result ≡ joined_to zones sets }
+{
+    sets.map(|set| set | zones)
+}
+
 impl History {
     // The history of an arena in which nothing has been aged.
     pub fn new() -> History
@@ -77,7 +84,7 @@ impl History {
             return Err(Refusal::CollectionsSpent);
         }
         self.recent[self.epoch as usize % DEPTH] = 0;
-        self.recent = self.recent.map(|set| set | zones);
+        self.recent = joined_to(self.recent, zones);
         self.ever |= zones;
         self.epoch += 1;
         Ok(())
