@@ -8,4 +8,4 @@ mod segments;
 
 pub use boards::{clear_all, clear_bit, count_ones, is_set, lowest_from, set_bit};
 pub use buffers::{Buffer, Rows, Step, pad_part};
-pub use segments::{Owner, Segments};
+pub use segments::{Owner, Segments, segments_in};

@@ -8,13 +8,13 @@ use crate::boards::clear_all;
 pub type Owner = Option<u8>;
 
 // The owners of an arena's segments, of which there are at most 256.
-#[derive(Clone, Copy)]
+#[derive(Clone, Copy, PartialEq, Eq, Debug)]
 pub struct Segments {
     owners: [Owner; 256],
 }
 
 // How many segments an arena of so many words has.
-pub(crate) fn segments_in(words: usize) -> usize
+pub fn segments_in(words: usize) -> usize
     ensures { result ≡ segments_in words }
 {
     (words / 256).min(256)

@@ -19,7 +19,8 @@ held_in a k = held a k.words.now k.marks.now k.greys.now
 abbrev Stays : MutBor (List ℕ) → MutBor (List ℕ) → Type 0
 Stays r s = (s.ghost_name ≡ r.ghost_name) × (length s.now ≡ length r.now)
 
--- The words and the boards are the ones that were lent, and no others.
+-- The words and the boards are the ones that were lent, and no others. Every step says so in its contract,
+-- since it ties what is after a call to what was before, which no invariant of a type can.
 abbrev pub HeapStaysLent : LentHeap → LentHeap → Type 0
 HeapStaysLent h k = Stays h.words k.words × Stays h.marks k.marks × Stays h.greys k.greys
 

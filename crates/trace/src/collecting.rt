@@ -7,7 +7,7 @@ use crate::fixing::pad_rest;
 use crate::heap::Heap;
 use crate::state::{Class, Plan, Trace, Tracer};
 use crate::sweeping::sweep;
-use arena::{Owner, Segments, count_ones};
+use arena::{Owner, Segments, count_ones, segments_in};
 use format::Format;
 
 impl Plan {
@@ -26,6 +26,7 @@ impl<F: Format> Tracer<'_, F> {
         ensures after { contents heap.new ≡ row_scanned (F.Format.meaning self.now.format.now) self.now.plan.now (contents heap.old) base limit }
         ensures lent { HeapStaysLent heap.old heap.new }
     {
+        // By a cursor, since a scan writes the words that the walk goes over.
         let mut at = base;
         while at < limit {
             let end = self.end_at(heap, at, limit);
@@ -52,7 +53,7 @@ impl<F: Format> Tracer<'_, F> {
         ensures after { contents heap.new ≡ all_scanned (F.Format.meaning self.now.format.now) self.now.plan.now used.now (contents heap.old) }
         ensures lent { HeapStaysLent heap.old heap.new }
     {
-        for s in 0..(heap.words.len() / 256).min(256) {
+        for s in 0..segments_in(heap.words.len()) {
             self.scan_segment(heap, used, s as u8);
         }
     }
@@ -88,7 +89,7 @@ impl<F: Format> Tracer<'_, F> {
     pub(crate) fn sweep_segments(&self, segments: &mut Segments, words: &mut [u32], marks: &[u32])
         ensures { ground segments.new words.new ≡ all_swept (F.Format.meaning self.now.format.now) self.now.plan.now marks.now (ground segments.old words.old) }
     {
-        for s in 0..(words.len() / 256).min(256) {
+        for s in 0..segments_in(words.len()) {
             self.sweep_condemned(segments, words, marks, s as u8);
         }
     }

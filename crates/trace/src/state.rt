@@ -30,7 +30,8 @@ pub struct Tracer<'a, F> {
 }
 
 // What it does change: the owners of segments; where each pool's target segment has its next word, 0
-// where there is none; how many objects have moved; and an address below which nothing is grey.
+// where there is none (a full target has no words left either, so an Option would only be asked twice);
+// how many objects have moved; and an address below which nothing is grey.
 #[derive(Clone, Copy)]
 pub struct Trace {
     pub segments: Segments,
@@ -80,7 +81,7 @@ impl Trace {
 // What a collection works on, besides the words and the boards: the owners of segments, the buffers of
 // allocation points, the classes of the pools, the history of zones, and the roots. Registers are exact
 // roots, which follow their objects; an ambiguous word stays, and so does what it points into.
-#[derive(Clone, Copy)]
+#[derive(Clone, Copy, PartialEq, Eq, Debug)]
 pub struct Arena {
     pub segments: Segments,
     pub buffers: [Buffer; 8],

@@ -7,6 +7,8 @@ ghost use Rattle.trace.specs.Traces.{loose, stand_by, stood, row, swept_row, swe
 use arena::{Segments, is_set, pad_part};
 use format::{Format, Head, look};
 
+// The sweep is lent words and marks alone, and no heap: it has no use for grey objects or targets.
+
 // Where a thing of a row ends, and whether it is a marked object, which is kept.
 #[derive(Clone, Copy, PartialEq, Eq, Debug)]
 pub(crate) struct Stand {
@@ -64,6 +66,7 @@ fn sweep_row<F: Format>(
     requires { (base ≤ limit) × (limit ≤ length words.old) }
     ensures { row words.new result ≡ swept_row (F.Format.meaning format.now) words.old marks.now base limit }
 {
+    // By a cursor, since the sweep writes the words that the walk goes over.
     let mut run = base;
     let mut at = base;
     while at < limit {
