@@ -5,7 +5,8 @@ ghost use Rattle.arena.specs.Buffers.{no_buffer, begins, buffer_at, step_over, s
 
 use format::{Format, Head, look, pad};
 
-// The words from `init` up to `limit`, in which an allocation point makes objects.
+// The words from `init` up to `limit`, in which an allocation point makes objects. One without words is
+// none: it begins nowhere, so that nothing has to ask whether there is one.
 #[derive(Clone, Copy, PartialEq, Eq, Default, Debug)]
 pub struct Buffer {
     pub init: usize,

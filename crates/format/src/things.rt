@@ -36,7 +36,7 @@ impl Head {
     }
 }
 
-// What a slot holds. A reference is an address, or 0 for null.
+// What a slot holds. A reference is an address, or 0 for null, as words in lent memory have it.
 #[derive(Clone, Copy, PartialEq, Eq, Debug)]
 pub enum Slot {
     Reference(u32),

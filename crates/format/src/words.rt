@@ -13,6 +13,7 @@ pub fn word_at(words: &[u32], k: usize) -> u32
 pub fn put_word(own: &mut [u32], k: usize, word: u32)
     ensures { own.new ≡ slice_set own.old k word }
 {
+    // Not by `get_mut`: a proof does not know the words once that borrow is over.
     if k < own.len() {
         own[k] = word;
     }
