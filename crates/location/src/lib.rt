@@ -13,7 +13,7 @@ const DEPTH: usize = 4;
 pub const MOST_COLLECTIONS: u32 = 1_000_000;
 
 // The zones that were aged, as sets of 32 bits. Of the recent sets, the one at an epoch's remainder
-// by 4 has every zone that was aged since that epoch; `ever` has every zone that was ever aged.
+// by DEPTH has every zone that was aged since that epoch; `ever` has every zone that was ever aged.
 #[derive(Clone, Copy, PartialEq, Eq, Default, Debug)]
 pub struct History {
     epoch: u32,
