@@ -93,7 +93,8 @@ impl Arena {
         }
     }
 
-    // Refuses, or ages the dependencies and collects.
+    // Refuses, or ages the dependencies and collects. It stands apart from `collect`, so that an edit of the
+    // code is refused at the code, and not at the proof of a law.
     fn collect_pools<F: Format>(
         &mut self,
         format: &F,

@@ -10,7 +10,8 @@ use crate::state::{Class, Plan, Trace, Tracer};
 use arena::is_set;
 use format::{Format, Head};
 
-// What becomes of the object at a reference.
+// What becomes of the object at a reference: a value and no closure, since what is decided is half of
+// what the contract of `fix` says.
 #[derive(Clone, Copy, PartialEq, Eq, Debug)]
 pub(crate) enum Fate {
     Stay,

@@ -14,7 +14,8 @@ pub enum Class {
     Lo,
 }
 
-// What a collection does not change: the condemned segments, and the classes of the pools.
+// What a collection does not change: the condemned segments, and the classes of the pools. They stand
+// beside the owners and the targets, which change, in tables of their own, since memory is fixed.
 #[derive(Clone, Copy)]
 pub struct Plan {
     pub condemned: [bool; 256],
