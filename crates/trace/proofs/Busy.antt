@@ -86,7 +86,7 @@ object_not x n b e h = both_ways (is_object x) (ap is_object e) h
 pub mark_falls : (S : Start) (t : Heap) (a : ℕ) → Std S a → stays S t a ≡ false → Body S t.words a (rd S t.words a) → (u : Heap) → u.words ≡ t.words
     → ((c : ℕ) → marked t c ≡ true → marked u c ≡ true) → ((c : ℕ) → grey u c ≡ true → (grey t c ≡ true) ⊎ (c ≡ a)) → pot S u ≤ pot S t
 mark_falls S t a s gone b u em mk gr = count_mono (busy S t) (busy S u) (length S.space.words) (λ w h. elim (busy_is S u w h) [
-  | inl l ↦ busy_loose S t w (record { std = l.std; thing = subst (λ (m : List ℕ). is_object (rd S m w) ≡ true) em l.thing; goes = stays_back S t u w (mk w) l.goes })
+  | inl l ↦ busy_loose S t w (record { std = l.std; thing = rw (← em) l.thing; goes = stays_back S t u w (mk w) l.goes })
   | inr g ↦ elim (gr w g) [
     | inl k ↦ busy_grey S t w k
     | inr e ↦ subst (λ (x : ℕ). busy S t x ≡ true) (sym e) (busy_loose S t a (record { std = s; thing = object_is S t.words a a b; goes = gone }))
@@ -117,8 +117,8 @@ module _ (S : Start) (ok : Sound S) (Todo : ℕ → Type 0) (t : Heap) (inv : In
   pub copy_falls : pot S u ≤ pot S t
   copy_falls = count_swap (busy S t) (busy S u) (length S.space.words) a b
       (λ w n h. elim (busy_is S u w h) [
-        | inl l ↦ (let na : w ≢ a = λ e. object_not (rd S k a) (size0 S a) b cp.left (subst (λ (x : ℕ). is_object (rd S k x) ≡ true) e l.thing) in
-            busy_loose S t w (record { std = l.std; goes = l.goes; thing = subst (λ (x : Thing). is_object x ≡ true) (copy_still S ok Todo t inv a oa gone body b k st cp in_free w w l.std (same refl) na) l.thing }))
+        | inl l ↦ (let na : w ≢ a = λ e. object_not (rd S k a) (size0 S a) b cp.left (rw (← e) l.thing) in
+            busy_loose S t w (record { std = l.std; goes = l.goes; thing = rw (← copy_still S ok Todo t inv a oa gone body b k st cp in_free w w l.std (same refl) na) l.thing }))
         | inr g ↦ busy_grey S t w (sym ((laws_of t.greys).set_other b w n) ∙ g)
       ])
       (omega (arith, ok.inside a oa.0, ok.seg a oa.0, ok.some a oa.0))
@@ -131,7 +131,7 @@ module _ (S : Start) (ok : Sound S) (Todo : ℕ → Type 0) (t : Heap) (inv : In
 
 pub reframe_falls : (S : Start) (t : Heap) (k : List ℕ) → ((c : ℕ) → Std S c → rd S k c ≡ rd S t.words c) → pot S (put_words t k) ≤ pot S t
 reframe_falls S t k f = count_mono (busy S t) (busy S (put_words t k)) (length S.space.words) (λ w h. elim (busy_is S (put_words t k) w h) [
-  | inl l ↦ busy_loose S t w (record { std = l.std; thing = subst (λ (x : Thing). is_object x ≡ true) (f w l.std) l.thing; goes = l.goes })
+  | inl l ↦ busy_loose S t w (record { std = l.std; thing = rw (← f w l.std) l.thing; goes = l.goes })
   | inr g ↦ busy_grey S t w g
 ])
 
@@ -141,8 +141,8 @@ module _ (S : Start) (ok : Sound S) (Todo : ℕ → Type 0) (t : Heap) (inv : In
   pub put_falls : pot S (put_words t k) ≤ pot S t
   put_falls = count_mono (busy S t) (busy S (put_words t k)) (length S.space.words) (λ w h. elim (busy_is S (put_words t k) w h) [
     | inl l ↦ elim (cases_eq w p) [
-      | inl e ↦ busy_loose S t w (record { std = l.std; goes = l.goes; thing = subst (λ (y : ℕ). is_object (rd S t.words y) ≡ true) (sym e) (object_is S t.words a p (final_body S Todo t inv a p oa fin)) })
-      | inr n ↦ busy_loose S t w (record { std = l.std; goes = l.goes; thing = subst (λ (y : Thing). is_object y ≡ true) (put_still S ok Todo t inv a p oa fin todo k i x pt inside fits w w l.std (same refl) n) l.thing })
+      | inl e ↦ busy_loose S t w (record { std = l.std; goes = l.goes; thing = rw e (object_is S t.words a p (final_body S Todo t inv a p oa fin)) })
+      | inr n ↦ busy_loose S t w (record { std = l.std; goes = l.goes; thing = rw (← put_still S ok Todo t inv a p oa fin todo k i x pt inside fits w w l.std (same refl) n) l.thing })
     ]
     | inr g ↦ busy_grey S t w g
   ])

@@ -42,7 +42,7 @@ module _ (S : Start) (ok : Sound S) (laws : Lawful S.meaning) (Todo : ℕ → Ty
     room_back : {w : ℕ} → Room u w → Room t w
     room_back (unused x y z) = unused x y z
     room_back {w} (ahead q x y z) = elim (same_or_none q) [
-      | inl e ↦ ahead q (subst (λ (n : ℕ). n ≤ w) e x) (subst (λ (n : ℕ). w < n / 256 * 256 + 256) e y) (subst (λ (n : ℕ). 1 ≤ n % 256) e z)
+      | inl e ↦ ahead q (rw (← e) x) (rw (← e) y) (rw (← e) z)
       | inr e ↦ absurd (none_ahead q e.1 z)
     ]
 
@@ -57,10 +57,10 @@ module _ (S : Start) (ok : Sound S) (laws : Lawful S.meaning) (Todo : ℕ → Ty
         λ h y. none_ahead q z h,
         elim f.ends [
           | inl x ↦ (let tq : target t q ≡ target t p = ap (target t) e in
-              let h : 1 ≤ target t p % 256 = subst (λ (n : ℕ). 1 ≤ n % 256) tq x.0 in
-              let g : target t p / 256 ≡ s = subst (λ (n : ℕ). n / 256 ≡ s) tq x.1 in
+              let h : 1 ≤ target t p % 256 = rw (← tq) x.0 in
+              let g : target t p / 256 ≡ s = rw (← tq) x.1 in
               let ff : target t p ≡ f.front = sym tq ∙ sym x.2 in
-              inr (subst (λ (y : ℕ). rd S t.words y ≡ padding (s * 256 + 256 - y)) ff (subst (λ (y : ℕ). rd S t.words (target t p) ≡ padding (y * 256 + 256 - target t p)) g (closing h))))
+              inr (rw (← ff) (rw (← g) (closing h))))
           | inr x ↦ x.1
         ],
       );
@@ -74,8 +74,8 @@ module _ (S : Start) (ok : Sound S) (laws : Lawful S.meaning) (Todo : ℕ → Ty
       below = f.below;
       cover = f.cover;
       ends = elim f.ends [
-        | inl x ↦ inl (subst (λ (n : ℕ). 1 ≤ n % 256) (sym z) x.0, subst (λ (n : ℕ). n / 256 ≡ s) (sym z) x.1, x.2 ∙ sym z)
-        | inr x ↦ inr (subst (λ (n : ℕ). 1 ≤ n % 256 → n / 256 ≡ s → ⊥) (sym z) x.0, x.1)
+        | inl x ↦ inl (rw z x.0, rw z x.1, x.2 ∙ sym z)
+        | inr x ↦ inr (rw z x.0, x.1)
       ];
     }
 
@@ -94,8 +94,8 @@ module _ (S : Start) (ok : Sound S) (laws : Lawful S.meaning) (Todo : ℕ → Ty
         owners = inv.ready.owners;
         targets = length-set t.state.targets p 0 ∙ inv.ready.targets;
         owned = λ q h. elim (same_or_none q) [
-          | inl e ↦ subst (λ (n : ℕ). (owner t (n / 256) ≡ Some q) × (n / 256 * 256 + 256 ≤ length t.words) × (256 ≤ n) × (get_or S.plan.condemned (n / 256) false ≡ false)) (sym e)
-              (inv.ready.owned q (subst (λ (n : ℕ). 1 ≤ n % 256) e h))
+          | inl e ↦ rw e
+              (inv.ready.owned q (rw (← e) h))
           | inr e ↦ absurd (none_ahead q e.1 h)
         ];
       };
@@ -114,7 +114,7 @@ module _ (S : Start) (ok : Sound S) (laws : Lawful S.meaning) (Todo : ℕ → Ty
         plain = inv.fill.plain;
         pools = inv.fill.pools;
         aims = λ q h. elim (same_or_none q) [
-          | inl e ↦ subst (λ (y : ℕ). owner0 S (y / 256) ≡ None) (sym e) (inv.fill.aims q (subst (λ (n : ℕ). 1 ≤ n % 256) e h))
+          | inl e ↦ rw e (inv.fill.aims q (rw (← e) h))
           | inr e ↦ absurd (none_ahead q e.1 h)
         ];
         fronts = λ s q e o. elim (same_or_none q) [ inl z ↦ same_front s q z (inv.fill.fronts s q e o) | inr z ↦ gone_front s q z.0 z.1 (inv.fill.fronts s q e o) ];
@@ -174,7 +174,7 @@ module _ (S : Start) (ok : Sound S) (laws : Lawful S.meaning) (Todo : ℕ → Ty
       let y : reset (rest_padded S ok laws Todo v b.inv p) p ≡ closed_to t (suc p) =
       ap (λ (at : ℕ). heap (record { segments = t.state.segments; targets = given_up t.state.targets (suc p); moved = t.state.moved; low = t.state.low })
       (padded_part S.meaning at (at + rest at) v.words) t.marks t.greys) e in
-      subst (Closes t) y (record { inv = c.inv; grows = grows_trans S t v (reset (rest_padded S ok laws Todo v b.inv p) p) b.grows c.grows })
+      rw (← y) (record { inv = c.inv; grows = grows_trans S t v (reset (rest_padded S ok laws Todo v b.inv p) p) b.grows c.grows })
 
   pub all_shut : (t : Heap) → length t.state.targets ≡ 8 → (p : ℕ) → target (closed_to t 8) p ≡ 0
   all_shut t e p = elim (dec_lt p 8) [

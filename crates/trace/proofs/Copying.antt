@@ -70,7 +70,7 @@ module _ (S : Start) (ok : Sound S) (Todo : ℕ → Type 0) (t : Heap) (inv : In
   -- a cell is an old one, or the new one
   moved_back : (c d : ℕ) → Std S c → Moved S k c d → ((c ≡ a) × (d ≡ b)) ⊎ ((c ≢ a) × Moved S t.words c d)
   moved_back c d s g = elim (cases_eq c a) [
-    | inl e ↦ inl (e, same_address (rd S k a) (size0 S c) (size0 S a) d b (subst (λ (x : ℕ). rd S k x ≡ forwarded (size0 S c) d) e g) cp.left)
+    | inl e ↦ inl (e, same_address (rd S k a) (size0 S c) (size0 S a) d b (rw (← e) g) cp.left)
     | inr n ↦ inr (n, sym (frame c c s (same refl) n) ∙ g)
   ]
 
@@ -82,7 +82,7 @@ module _ (S : Start) (ok : Sound S) (Todo : ℕ → Type 0) (t : Heap) (inv : In
   cell_back c q s (copy g) = elim (moved_back c q s g) [ inl x ↦ inl x | inr x ↦ inr (copy x.1) ]
 
   held' : (c : ℕ) → Std S c → Held S k c
-  held' c s = elim (cases_eq c a) [ inl e ↦ subst (Held S k) (sym e) at | inr n ↦ other n (inv.held c s) ]
+  held' c s = elim (cases_eq c a) [ inl e ↦ rw e at | inr n ↦ other n (inv.held c s) ]
     where
       at : Held S k a
       at = away b cp.left (body_map S t.words k moves_on a (rd S t.words a) (rd S k b) cp.there body)
@@ -97,12 +97,12 @@ module _ (S : Start) (ok : Sound S) (Todo : ℕ → Type 0) (t : Heap) (inv : In
     where
       new_left : (c p : ℕ) → c ≡ a → p ≡ b → Cell S t.words d q → Apart p (size0 S c) q (size0 S d)
       new_left c p x y f =
-          subst (λ (c : ℕ). Apart p (size0 S c) q (size0 S d)) (sym x) (subst (λ (p : ℕ). Apart p (size0 S a) q (size0 S d)) (sym y)
+          rw x (rw y
           (apart_sym q (size0 S d) b (size0 S a) (from_new d q r f)))
 
       new_right : (d q : ℕ) → d ≡ a → q ≡ b → Cell S t.words c p → Apart p (size0 S c) q (size0 S d)
       new_right d q x y e =
-          subst (λ (d : ℕ). Apart p (size0 S c) q (size0 S d)) (sym x) (subst (λ (q : ℕ). Apart p (size0 S c) q (size0 S a)) (sym y) (from_new c p s e))
+          rw x (rw y (from_new c p s e))
 
       go : ((c ≡ a) × (p ≡ b)) ⊎ Cell S t.words c p → ((d ≡ a) × (q ≡ b)) ⊎ Cell S t.words d q → ((c ≡ d) × (p ≡ q)) ⊎ Apart p (size0 S c) q (size0 S d)
       go (inl x) (inl y) = inl (x.0 ∙ sym y.0, x.1 ∙ sym y.1)
@@ -121,9 +121,9 @@ module _ (S : Start) (ok : Sound S) (Todo : ℕ → Type 0) (t : Heap) (inv : In
       ]
 
       go : Final S with_copy c p → ((grey with_copy p ≡ true) ⊎ Todo p) ⊎ Clean S with_copy c (rd S k p)
-      go (stay e h) = old (λ (x : c ≡ a). both_ways (stays S t a) gone (subst (λ (y : ℕ). stays S t y ≡ true) x h)) (stay e h)
+      go (stay e h) = old (λ (x : c ≡ a). both_ways (stays S t a) gone (rw (← x) h)) (stay e h)
       go (move g) = elim (moved_back c p s.0 g) [
-        | inl x ↦ inl (inl (subst (λ (y : ℕ). grey with_copy y ≡ true) (sym x.1) lit))
+        | inl x ↦ inl (inl (rw x.1 lit))
         | inr x ↦ old x.0 (move x.1)
       ]
 
@@ -141,12 +141,12 @@ module _ (S : Start) (ok : Sound S) (Todo : ℕ → Type 0) (t : Heap) (inv : In
       | inr x ↦ (let h = inv.copied c d s x.1 in copied_on S t with_copy c d cp.long refl (keep (d / 256) (λ e. ok.used c s (sym h.home ∙ e))) h)
     ];
     room = λ w c p f s e. elim (cell_back c p s e) [
-      | inl x ↦ subst (λ (c : ℕ). (w < p) ⊎ (p + size0 S c ≤ w)) (sym x.0) (subst (λ (p : ℕ). (w < p) ⊎ (p + size0 S a ≤ w)) (sym x.1) (free w f).1)
+      | inl x ↦ rw x.0 (rw x.1 (free w f).1)
       | inr x ↦ inv.room w c p (free w f).0 s x
     ];
     greys = λ p h. elim (board_set t.greys b p h) [
       | inl g ↦ place_grows S t with_copy copy_grows p (inv.greys p g)
-      | inr e ↦ record { whose = a; std = oa; final = move (subst (λ (y : ℕ). Moved S k a y) (sym e) cp.left) }
+      | inr e ↦ record { whose = a; std = oa; final = move (rw e cp.left) }
     ];
     bound = bound;
     fill = fill;
@@ -156,10 +156,10 @@ module _ (S : Start) (ok : Sound S) (Todo : ℕ → Type 0) (t : Heap) (inv : In
   }
     where
       new : (c d : ℕ) → c ≡ a → d ≡ b → Copied S with_copy c d
-      new c d x y = subst (λ (c : ℕ). Copied S with_copy c d) (sym x) (subst (λ (d : ℕ). Copied S with_copy a d) (sym y)
+      new c d x y = rw x (rw y
           (record { low = low; high = rw cp.long high; safe = safe; left = gone; seg = seg; fresh = fresh; home = home; mover = mover }))
 
   -- what was settled reads as it did
   pub copy_keeps : Keeps S t with_copy
-  copy_keeps c p s (stay e h) = frame c p s (same e) (λ (x : c ≡ a). both_ways (stays S t a) gone (subst (λ (y : ℕ). stays S t y ≡ true) x h))
+  copy_keeps c p s (stay e h) = frame c p s (same e) (λ (x : c ≡ a). both_ways (stays S t a) gone (rw (← x) h))
   copy_keeps c p s (move g) = frame c p s (copy g) (unmoved S t.words a c p body g)

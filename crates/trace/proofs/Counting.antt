@@ -27,8 +27,8 @@ count_mono f g (suc n) h = let i = count_mono f g n h in let k = one_le (g n) (f
 pub count_less : (f g : ℕ → Bool) (n a : ℕ) → ((w : ℕ) → g w ≡ true → f w ≡ true) → a < n → f a ≡ true → g a ≡ false → suc (count g n) ≤ count f n
 count_less f g zero a h l x y = absurd (omega arith)
 count_less f g (suc n) a h l x y = elim (cases_eq a n) [
-  | inl e ↦ (let fx : f n ≡ true = subst (λ (z : ℕ). f z ≡ true) e x in
-      let gx : g n ≡ false = subst (λ (z : ℕ). g z ≡ false) e y in
+  | inl e ↦ (let fx : f n ≡ true = rw (← e) x in
+      let gx : g n ≡ false = rw (← e) y in
       let p : one_if (f n) ≡ 1 = ap one_if fx in
       let q : one_if (g n) ≡ 0 = ap one_if gx in
       let i = count_mono f g n h in omega arith)
@@ -74,7 +74,7 @@ count_swap f g (suc n) a b h l x y = elim (cases_eq a n) [
 pub count_none : (f : ℕ → Bool) (n : ℕ) → count f n ≤ 0 → (w : ℕ) → w < n → f w ≡ false
 count_none f zero h w l = absurd (omega arith)
 count_none f (suc n) h w l = elim (cases_eq w n) [
-  | inl e ↦ subst (λ (z : ℕ). f z ≡ false) (sym e) (go (f n) (omega arith))
+  | inl e ↦ rw e (go (f n) (omega arith))
   | inr ne ↦ count_none f n (omega arith) w (omega arith)
 ]
   where

@@ -24,7 +24,7 @@ module _ (S : Start) (laws : Lawful S.meaning) where
 
   -- what stands apart from a write reads as it did
   elsewhere : (ws k : List ℕ) (a n : ℕ) (x : Thing) → Leaves m ws a n x k → (q j : ℕ) → Real m (rd S ws q) j → Apart q j a n → rd S k q ≡ rd S ws q
-  elsewhere ws k a n x l q j r h = l.elsewhere q r.real (elim h [ inl y ↦ inl (subst (λ (z : ℕ). q + z ≤ a) (sym r.span) y) | inr y ↦ inr y ])
+  elsewhere ws k a n x l q j r h = l.elsewhere q r.real (elim h [ inl y ↦ inl (rw r.span y) | inr y ↦ inr y ])
 
   -- ---- padding
 
@@ -79,7 +79,7 @@ module _ (S : Start) (laws : Lawful S.meaning) where
     real = real_object m (rd S ws a) l ss e
 
     pub object_inside : a + n ≤ length ws
-    object_inside = subst (λ (k : ℕ). a + k ≤ length ws) real.span (law.spans ws a real.real).2
+    object_inside = rw (← real.span) (law.spans ws a real.real).2
 
     own_reads : thing_at m (part a n ws) 0 ≡ object l ss
     own_reads = own_part m laws n (drop a ws) real.real real.span ∙ e
@@ -100,7 +100,7 @@ module _ (S : Start) (laws : Lawful S.meaning) where
           left = g.here;
           words = λ w x y. g.words w x ∙ f.words w y;
           others = λ q j z x y. let u = elsewhere ws k b n (object l ss) f q j z y in
-              elsewhere k (copied_words m ws a n b) a n (forwarded n b) g q j (subst (λ (v : Thing). Real m v j) (sym u) z) x ∙ u;
+              elsewhere k (copied_words m ws a n b) a n (forwarded n b) g q j (rw u z) x ∙ u;
         }
 
     pub putting : (i : ℕ) (x : Slot) → i < length ss → holds m (shape l (length ss)) i x ≡ true → Putting S ws (rewritten (m.with_slot (shape l (length ss)) i x) a n ws) a n i x

@@ -166,9 +166,9 @@ module _ (S : Start) (ok : Sound S) (laws : Lawful S.meaning) (Todo : ℕ → Ty
 
       blank' : (w : ℕ) → owner u (w / 256) ≡ None → get_or (copy_words_to b) w 0 ≡ 0
       blank' w e =
-          let n : w / 256 ≢ b / 256 = λ z. pool_not_free p (owner u (b / 256)) onto.own_same (subst (λ (x : ℕ). owner u x ≡ None) z e) in
+          let n : w / 256 ≢ b / 256 = λ z. pool_not_free p (owner u (b / 256)) onto.own_same (rw (← z) e) in
           let f : owner t (w / 256) ≡ None = sym (onto.own_other (w / 256) n) ∙ e in
-          cp.words w (word_apart w a (size0 S a) (λ z. cell_used S ok Todo t inv a a sa (same refl) (subst (λ (x : ℕ). owner t x ≡ None) z f)) (ok.seg a sa))
+          cp.words w (word_apart w a (size0 S a) (λ z. cell_used S ok Todo t inv a a sa (same refl) (rw (← z) f)) (ok.seg a sa))
           (word_apart w b (size0 S a) n fit) ∙ inv.blank w f
 
       fix_copy : Fixed S Todo t a b u
@@ -211,15 +211,15 @@ module _ (S : Start) (ok : Sound S) (laws : Lawful S.meaning) (Todo : ℕ → Ty
         let o = (inv.ready.owned p h).0 in
         seg_apart f (s * 256 + 256 - f) at (rest at)
         (λ z. (let x : at / 256 ≡ s = omega arith in
-        let pq : p ≡ q = pool_same p q (owner t s) (subst (λ (x : ℕ). owner t x ≡ Some p) x o) ow in
-        shut (subst (λ (x : ℕ). 1 ≤ target t x % 256) pq h) (subst (λ (x : ℕ). target t x / 256 ≡ s) pq x)))
+        let pq : p ≡ q = pool_same p q (owner t s) (rw (← x) o) ow in
+        shut (rw (← pq) h) (rw (← pq) x)))
         (omega arith) (omega arith)))
 
     pad_blank : (w : ℕ) → owner t (w / 256) ≡ None → get_or rest_padded.words w 0 ≡ 0
     pad_blank w e =
         effect.words w (λ k. (let h : 1 ≤ at % 256 = omega arith in
         let o = (inv.ready.owned p h).0 in
-        word_apart w at (rest at) (λ z. pool_not_free p (owner t (at / 256)) o (subst (λ (x : ℕ). owner t x ≡ None) z e)) (omega arith)))
+        word_apart w at (rest at) (λ z. pool_not_free p (owner t (at / 256)) o (rw (← z) e)) (omega arith)))
         ∙ inv.blank w e
 
     pub pad_inv : Inv S Todo rest_padded
@@ -260,7 +260,7 @@ module _ (S : Start) (ok : Sound S) (laws : Lawful S.meaning) (Todo : ℕ → Ty
     small =
         let e = body.shape in
         let r = readings S.meaning laws in
-        subst (λ (n : ℕ). n ≤ 128) (size_now t inv a oa gone body) (r.sizes (shape (layout0 S a) (length (slots_of (rd S t.words a)))) (r.admits t.words a (layout0 S a) (slots_of (rd S t.words a)) e).0).3
+        rw (← size_now t inv a oa gone body) (r.sizes (shape (layout0 S a) (length (slots_of (rd S t.words a)))) (r.admits t.words a (layout0 S a) (slots_of (rd S t.words a)) e).0).3
 
     -- a copy at the target
     fix_onward : (p : ℕ) → p < 8 → leafy S p ≡ false → Own p → size0 S a ≤ rest (target t p) → FixedBy (Copy p (size0 S a) (target t p))
@@ -289,11 +289,11 @@ module _ (S : Start) (ok : Sound S) (laws : Lawful S.meaning) (Todo : ℕ → Ty
         fixed_after t v a (s * 256) (acted S.meaning t a (Fresh p (size0 S a) s)) (pad_grows t inv p) (pad_keeps t inv p) (pad_falls t inv p)
         (fix_copy v i a oa gone
         (body_map S t.words v.words (pad_grows t inv p).moves a (rd S t.words a) (rd S v.words a) (pad_frame t inv p a a sb (same refl)) body)
-        p (s * 256) c own (opening (omega arith) (omega (arith, f.0)) (omega (arith, f.2, (effect t inv p).long)) (subst (λ (x : ℕ). owner t x ≡ None) (sym k) f.3)) (omega (arith, small)) pin
+        p (s * 256) c own (opening (omega arith) (omega (arith, f.0)) (omega (arith, f.2, (effect t inv p).long)) (rw k f.3)) (omega (arith, small)) pin
         (λ h n. pad_closes t inv p h)
         st
         (record {
-          own_same = subst (λ (x : ℕ). get_or (set t.state.segments.owners s (Some p)) x None ≡ Some p) (sym k) (get_or-set_same t.state.segments.owners s (Some p) None (omega (arith, inv.ready.owners, f.1)));
+          own_same = rw k (get_or-set_same t.state.segments.owners s (Some p) None (omega (arith, inv.ready.owners, f.1)));
           own_other = λ q ne. get_or-set_other t.state.segments.owners s q (Some p) None (λ z. ne (z ∙ sym k));
           aim = get_or-set_same (set t.state.targets p (s * 256)) p (s * 256 + size0 S a) 0 (omega (arith, inv.ready.targets, length-set t.state.targets p (s * 256)));
           aims = λ q ne. get_or-set_other (set t.state.targets p (s * 256)) p q (s * 256 + size0 S a) 0 ne ∙ get_or-set_other t.state.targets p q (s * 256) 0 ne;
@@ -311,10 +311,10 @@ module _ (S : Start) (ok : Sound S) (laws : Lawful S.meaning) (Todo : ℕ → Ty
       | inl e ↦ (let l = leb-true (size0 S a) (rest (target t p)) e in
           let o = ok.some a sb in
           let k = inv.ready.owned p (omega arith) in
-          subst FixedBy (sym (cond-true (leb (size0 S a) (rest (target t p)) && leb (target t p + size0 S a) (min (length t.words) 65536)) _ _
-          (rw (e, le-leb (target t p + size0 S a) (min (length t.words) 65536) (omega (arith, k.1, inv.ready.few))) refl)))
+          rw (cond-true (leb (size0 S a) (rest (target t p)) && leb (target t p + size0 S a) (min (length t.words) 65536)) _ _
+          (rw (e, le-leb (target t p + size0 S a) (min (length t.words) 65536) (omega (arith, k.1, inv.ready.few))) refl))
           (fix_onward p pin c own l))
-      | inr e ↦ subst FixedBy (sym (cond-false (leb (size0 S a) (rest (target t p)) && leb (target t p + size0 S a) (min (length t.words) 65536)) _ _ (rw e refl)))
+      | inr e ↦ rw (cond-false (leb (size0 S a) (rest (target t p)) && leb (target t p + size0 S a) (min (length t.words) 65536)) _ _ (rw e refl))
           (fix_free p pin c own (lowest_free t.state.segments (length t.words)) refl)
     ]
 
@@ -327,8 +327,8 @@ module _ (S : Start) (ok : Sound S) (laws : Lawful S.meaning) (Todo : ℕ → Ty
     fix_owner =
         let o = inv.owned a sb in
         let pin = (inv.fill.pools (a / 256) o.pool o.is).0 in
-        subst (λ (x : Owner). FixedBy (by_owner S.plan t.state (length t.words) (size0 S a) x)) (sym o.is)
-        (subst FixedBy (sym (cond-true (ltb o.pool 8) _ Stay (lt-ltb o.pool 8 pin))) (fix_class o.pool pin o.was o.leaf (class_of S.plan o.pool) refl))
+        rw o.is
+        (rw (cond-true (ltb o.pool 8) _ Stay (lt-ltb o.pool 8 pin)) (fix_class o.pool pin o.was o.leaf (class_of S.plan o.pool) refl))
 
     abbrev found : Head
     found = Object (shape (layout0 S a) (length (slots_of (rd S t.words a))))
@@ -338,22 +338,21 @@ module _ (S : Start) (ok : Sound S) (laws : Lawful S.meaning) (Todo : ℕ → Ty
 
     pub fix_unmoved : FixedBy (fate_of S.meaning S.plan t a)
     fix_unmoved =
-        subst FixedBy (sym (cond-true (sought S.plan (length t.words) t.marks a) _ Stay (sought_yes S ok t inv.long inv.ready.few a sb gone)))
-        (subst (λ (h : Head). FixedBy (by_head S.meaning S.plan t.state (length t.words) a h)) (sym head_now)
-        (subst (λ (n : ℕ). FixedBy (by_owner S.plan t.state (length t.words) n (owner t (a / 256)))) (sym (size_now t inv a oa gone body)) fix_owner))
+        rw (cond-true (sought S.plan (length t.words) t.marks a) _ Stay (sought_yes S ok t inv.long inv.ready.few a sb gone))
+        (rw head_now
+        (rw (size_now t inv a oa gone body) fix_owner))
 
   -- what stays
   fix_stays : (t : Heap) → Inv S Todo t → (r v : ℕ) → stays S t v ≡ true → Settled S t r v → Fixed S Todo t r (fix_answer S.meaning S.plan t v) (fixed S.meaning S.plan t v)
   fix_stays t inv r v h s =
-      subst (λ (f : Fate). Fixed S Todo t r (answered v f) (acted S.meaning t v f)) (sym (cond-false (sought S.plan (length t.words) t.marks v) _ Stay (sought_no S t v h)))
+      rw (cond-false (sought S.plan (length t.words) t.marks v) _ Stay (sought_no S t v h))
       (unchanged t inv r v s)
 
   -- what has gone
   fix_gone : (t : Heap) → Inv S Todo t → (r b : ℕ) → Obj S r → stays S t r ≡ false → Moved S t.words r b → Fixed S Todo t r (fix_answer S.meaning S.plan t r) (fixed S.meaning S.plan t r)
   fix_gone t inv r b s h g =
-      subst (λ (f : Fate). Fixed S Todo t r (answered r f) (acted S.meaning t r f))
-      (sym (cond-true (sought S.plan (length t.words) t.marks r) _ Stay (sought_yes S ok t inv.long inv.ready.few r s.0 h)
-      ∙ ap (by_head S.meaning S.plan t.state (length t.words) r) (seen_forwarded S.meaning laws t.words r (limit_of r) (size0 S r) (omega (arith, ok.seg r s.0)) b g)))
+      rw (cond-true (sought S.plan (length t.words) t.marks r) _ Stay (sought_yes S ok t inv.long inv.ready.few r s.0 h)
+      ∙ ap (by_head S.meaning S.plan t.state (length t.words) r) (seen_forwarded S.meaning laws t.words r (limit_of r) (size0 S r) (omega (arith, ok.seg r s.0)) b g))
       (unchanged t inv r b (settled s (move g)))
 
   fix_same : (t : Heap) → Inv S Todo t → (r : ℕ) → Obj S r → Fixed S Todo t r (fix_answer S.meaning S.plan t r) (fixed S.meaning S.plan t r)
@@ -370,5 +369,5 @@ module _ (S : Start) (ok : Sound S) (laws : Lawful S.meaning) (Todo : ℕ → Ty
   pub fix_ok : (t : Heap) → Inv S Todo t → (r v : ℕ) → Names S t.words r v → Fixed S Todo t r (fix_answer S.meaning S.plan t v) (fixed S.meaning S.plan t v)
   fix_ok t inv r v (null e f) = fix_stays t inv r v (stays_zero S t v f) (empty e f)
   fix_ok t inv r v (names s (same e)) =
-      subst (λ (x : ℕ). Fixed S Todo t r (fix_answer S.meaning S.plan t x) (fixed S.meaning S.plan t x)) (sym e) (fix_same t inv r s)
+      rw e (fix_same t inv r s)
   fix_ok t inv r v (names s (copy g)) = fix_stays t inv r v (stays_by_zone S t v (inv.copied r v s.0 g).safe) (settled s (move g))

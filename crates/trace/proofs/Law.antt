@@ -112,7 +112,7 @@ module _ (m : Meaning) (laws : Lawful m) (h : Held) (pools : ℕ) (sa : SoundAre
 
   rooted_up : Regs S ok laws Out t1 h.arena.registers 16 x2
   rooted_up = regs_ok S ok laws Out t1 h.arena.registers nailed_up.inv 16
-      (λ i l. subst (λ (ws : List ℕ). Names S ws (get_or h.arena.registers i 0) (get_or h.arena.registers i 0)) (sym nailed_up.words) (leads_names S laws sa.space (get_or h.arena.registers i 0) (sa.registers i l)))
+      (λ i l. rw nailed_up.words (leads_names S laws sa.space (get_or h.arena.registers i 0) (sa.registers i l)))
 
   abbrev k3 : ℕ
   k3 = segments_in (length t2.words)
@@ -144,7 +144,7 @@ module _ (m : Meaning) (laws : Lawful m) (h : Held) (pools : ℕ) (sa : SoundAre
       both_ways (is_base m ws0 (q / 256 * 256 + 256) 256 (q / 256 * 256) q) (d.1 (q / 256) (omega (arith, w.1, rooted_up.inv.long, sa.space.whole.1)) sc) k.base
     where
       ready : (c : Bool) (o : Owner) → c ≡ false → (p : ℕ) → o ≡ Some p → p < 8 → leafy S p ≡ false → (not c && refers y.classes o) ≡ true
-      ready c o e p f l n = subst (λ (z : Bool). (not z && refers y.classes o) ≡ true) (sym e) (subst (λ (z : Owner). refers y.classes z ≡ true) (sym f) (pair (ltb p 8) (leafy S p) (lt-ltb p 8 l) n))
+      ready c o e p f l n = rw e (rw f (pair (ltb p 8) (leafy S p) (lt-ltb p 8 l) n))
         where
           pair : (x z : Bool) → x ≡ true → z ≡ false → (x && not z) ≡ true
           pair x z e f = rw (e, f) refl
@@ -251,7 +251,7 @@ module _ (m : Meaning) (laws : Lawful m) (h : Held) (pools : ℕ) (sa : SoundAre
           (
             (s.std, s.reads ∙ b.shape ∙ ap (λ (z : ℕ). object z (slots_of (rd S u.words p))) el),
             b.many ∙ ap length es,
-            λ i. subst (λ (zs : List Slot). SlotFollows m y u (get_or zs i (Number 0)) (get_or (slots_of (rd S u.words p)) i (Number 0))) es
+            λ i. rw (← es)
                 (slot_follows S ok Nil u inv_u (get_or (slots0 S a) i (Number 0)) (get_or (slots_of (rd S u.words p)) i (Number 0)) (c i)),
           ),
         );
@@ -307,7 +307,7 @@ module _ (m : Meaning) (laws : Lawful m) (h : Held) (pools : ℕ) (sa : SoundAre
   sound_by_v =
       let e = unclosed m swept.words in
       record {
-        space = subst (λ (ws : List ℕ). SoundSpace m y.classes (space ws swept.segments)) (sym e) sound_after;
+        space = rw e sound_after;
         registers = λ i l. subst (λ (ws : List ℕ). Leads m (space ws swept.segments) (get_or x2.roots i 0)) (sym e) (leads_after (get_or h.arena.registers i 0) (get_or x2.roots i 0) (registered i l));
         marks = board_after h.marks sa.marks;
         greys = board_after h.greys sa.greys;
@@ -318,15 +318,14 @@ module _ (m : Meaning) (laws : Lawful m) (h : Held) (pools : ℕ) (sa : SoundAre
 
   kept_before : Kept (before_sweep m y h) (after_sweep m y (before_sweep m y h))
   kept_before =
-      subst (λ (x : Rooted). Kept x (after_sweep m y x)) (sym (traced_steps m y h.arena.ambiguous (begun m h)))
-      (subst (Kept (rooted x2.roots v)) (sym (swept_all m y v.marks (ground v.state.segments v.words))) (sound_by_v, kept_by_v))
+      rw (traced_steps m y h.arena.ambiguous (begun m h))
+      (rw (swept_all m y v.marks (ground v.state.segments v.words)) (sound_by_v, kept_by_v))
 
   pub performed_keeps : KeptBy m y h (performed m y (held_aged h pools)).after
   performed_keeps = kept_before
 
 pub collections_keep : CollectionsKeep
 collections_keep m laws h pools sa f c =
-    subst (λ (o : OutcomeOf (Result ℕ Refusal)). KeptBy m (plan_of h.arena pools) h o.after)
-    (sym (cond-true (fits m (length h.words) (length h.marks) (length h.greys)) _ (refused WrongLength h) f
-    ∙ cond-true (can_age h.arena.history) (answering (performed m (plan_of h.arena pools) (held_aged h pools))) (refused CollectionsSpent h) c))
+    rw (cond-true (fits m (length h.words) (length h.marks) (length h.greys)) _ (refused WrongLength h) f
+    ∙ cond-true (can_age h.arena.history) (answering (performed m (plan_of h.arena pools) (held_aged h pools))) (refused CollectionsSpent h) c)
     (performed_keeps m laws h pools sa)

@@ -32,7 +32,7 @@ module _ (m : Meaning) (laws : Lawful m) (ws : List ℕ) (a : ℕ) where
   pub part_reads : (k n : ℕ) → Real m (thing_at m ws a) n → n ≤ k → reads m (part a k ws) ≡ thing_at m ws a
   part_reads k n r l =
       laws.own (drop a ws) (part a k ws) r.real
-      (subst (λ (j : ℕ). take j (part a k ws) ≡ take j (drop a ws)) (sym r.span) (take-take n k (drop a ws) l))
+      (rw r.span (take-take n k (drop a ws) l))
 
   module _ (limit n : ℕ) (fits : a + n ≤ limit) where
     whole : Real m (thing_at m ws a) n → reads m (part a (limit - a) ws) ≡ thing_at m ws a
@@ -41,7 +41,7 @@ module _ (m : Meaning) (laws : Lawful m) (ws : List ℕ) (a : ℕ) where
     seen_here : (x : Thing) → thing_at m ws a ≡ x → Real m x n
         → (seen m (part a (limit - a) ws) ≡ m.head (part a (limit - a) ws)) × (thing (λ s. m.slot s (part a (limit - a) ws)) (m.head (part a (limit - a) ws)) ≡ x)
     seen_here x e r =
-        let r' : Real m (thing_at m ws a) n = subst (λ (y : Thing). Real m y n) (sym e) r in
+        let r' : Real m (thing_at m ws a) n = rw e r in
         let w : reads m (part a (limit - a) ws) ≡ x = whole r' ∙ e in
         let s = seen_thing m (part a (limit - a) ws) (λ z. r.real (sym w ∙ z)) in
         (s.0, sym s.1 ∙ w)

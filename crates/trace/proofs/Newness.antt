@@ -63,7 +63,7 @@ new_arenas_sound m classes len f =
     let e = unclosed m (replicate len 0) in
     let n = ap (λ (k : ℕ). replicate {A = ℕ} (k / 32) 0) (sym (length-replicate {A = ℕ} len 0)) in
     record {
-      space = subst (λ (ws : List ℕ). Sound m classes (space ws all_free)) (sym e) (sound m classes len f);
+      space = rw e (sound m classes len f);
       registers = λ i l. inl (get_or_all 16 i 0);
       marks = n;
       greys = n;

@@ -19,11 +19,11 @@ pub final_body : (S : Start) (Todo : ℕ → Type 0) (t : Heap) → Inv S Todo t
 final_body S Todo t inv a p s f = go (inv.held a s.0) f
   where
     go : Held S t.words a → Final S t a p → Body S t.words a (rd S t.words p)
-    go (here h) (stay e k) = subst (λ (q : ℕ). Body S t.words a (rd S t.words q)) (sym e) h
+    go (here h) (stay e k) = rw e h
     go (here h) (move g) = absurd (unmoved S t.words a a p h g refl)
     go (away b g h) (stay e k) = absurd (both_ways (stays S t a) (inv.copied a b s.0 g).left k)
     go (still w e) f = absurd (object_not_padding (thing0 S a) (layout0 S a) (size0 S a) (slots0 S a) s.1 w)
-    go (away b g h) (move f) = subst (λ (q : ℕ). Body S t.words a (rd S t.words q)) (same_address (rd S t.words a) (size0 S a) (size0 S a) b p g f) h
+    go (away b g h) (move f) = rw (← same_address (rd S t.words a) (size0 S a) (size0 S a) b p g f) h
 
 pub inv_todo : (S : Start) (Todo Next : ℕ → Type 0) (t : Heap) → Inv S Todo t
     → ((a p : ℕ) → Obj S a → Final S t a p → Todo p → Next p ⊎ Clean S t a (rd S t.words p)) → Inv S Next t
@@ -123,7 +123,7 @@ word_apart w p n ne h = elim (dec_lt w p) [ yes l ↦ inl l | no l ↦ inr (let 
 pub cell_used : (S : Start) (ok : Sound S) (Todo : ℕ → Type 0) (t : Heap) → Inv S Todo t → (a p : ℕ) → Std S a → Cell S t.words a p → owner t (p / 256) ≢ None
 cell_used S ok Todo t inv a p s (same q) e =
     let o = inv.owned a s in
-    let f : owner t (a / 256) ≡ None = subst (λ (x : ℕ). owner t (x / 256) ≡ None) q e in
+    let f : owner t (a / 256) ≡ None = rw (← q) e in
     let z : ◌≡◌ {A = Owner} (Some o.pool) None = sym o.is ∙ f in
     let y : ◌≡◌ {A = ℕ} 0 1 = cc in absurd (omega arith)
 cell_used S ok Todo t inv a p s (copy g) e =
@@ -131,7 +131,7 @@ cell_used S ok Todo t inv a p s (copy g) e =
     elim (inv.room p a p (unused h.low (omega (arith, h.high, ok.some a s)) e) s (copy g)) [ inl x ↦ absurd (omega arith) | inr x ↦ absurd (omega (arith, ok.some a s)) ]
 
 pub cell_seg : (S : Start) (ok : Sound S) (Todo : ℕ → Type 0) (t : Heap) → Inv S Todo t → (a p : ℕ) → Std S a → Cell S t.words a p → p % 256 + size0 S a ≤ 256
-cell_seg S ok Todo t inv a p s (same q) = subst (λ (x : ℕ). x % 256 + size0 S a ≤ 256) (sym q) (ok.seg a s)
+cell_seg S ok Todo t inv a p s (same q) = rw q (ok.seg a s)
 cell_seg S ok Todo t inv a p s (copy g) = (inv.copied a p s g).seg
 
 -- words that are no cell's are written
@@ -207,7 +207,7 @@ module _ (S : Start) (ok : Sound S) (Todo : ℕ → Type 0) (t : Heap) (inv : In
   not_p : (c d : ℕ) → Moved S t.words c d → c ≢ p
   not_p c d g e =
       object_not_forwarded (rd S t.words p) (layout0 S a) (size0 S c) d (slots_of (rd S t.words p)) body.shape
-      (subst (λ (y : ℕ). rd S t.words y ≡ forwarded (size0 S c) d) e g)
+      (rw (← e) g)
 
   put_moves : (c d : ℕ) → Std S c → Moved S t.words c d → Moved S k c d
   put_moves c d s g = frame c c s (same refl) (not_p c d g) ∙ g
@@ -215,7 +215,7 @@ module _ (S : Start) (ok : Sound S) (Todo : ℕ → Type 0) (t : Heap) (inv : In
   put_back : (c d : ℕ) → Std S c → Moved S k c d → Moved S t.words c d
   put_back c d s g = elim (cases_eq c p) [
     | inl e ↦ absurd (object_not_forwarded (rd S k p) (layout_of (rd S t.words p)) (size0 S c) d (set (slots_of (rd S t.words p)) i x) pt.there
-        (subst (λ (y : ℕ). rd S k y ≡ forwarded (size0 S c) d) e g))
+        (rw (← e) g))
     | inr n ↦ sym (frame c c s (same refl) n) ∙ g
   ]
 
@@ -232,7 +232,7 @@ module _ (S : Start) (ok : Sound S) (Todo : ℕ → Type 0) (t : Heap) (inv : In
   put_pads s o f e ow shut below bot hi pd = pt.others f (s * 256 + 256 - f) (real_padding S.meaning (rd S t.words f) (s * 256 + 256 - f) pd) (go (final_cell S t a p fin))
     where
       go : Cell S t.words a p → Apart f (s * 256 + 256 - f) p (size0 S a)
-      go (same q) = seg_apart f (s * 256 + 256 - f) p (size0 S a) (λ z. ok.used a sa (subst (λ (y : ℕ). owner0 S y ≡ None) (from z) e)) (omega arith) (subst (λ (y : ℕ). y % 256 + size0 S a ≤ 256) (sym q) (ok.seg a sa))
+      go (same q) = seg_apart f (s * 256 + 256 - f) p (size0 S a) (λ z. ok.used a sa (rw (← from z) e)) (omega arith) (rw q (ok.seg a sa))
         where
           from : f / 256 ≡ p / 256 → s ≡ a / 256
           from z = let y : p / 256 ≡ a / 256 = ap (λ (v : ℕ). v / 256) q in omega arith
@@ -242,7 +242,7 @@ module _ (S : Start) (ok : Sound S) (Todo : ℕ → Type 0) (t : Heap) (inv : In
       ]
 
   put_blank : (w : ℕ) → owner t (w / 256) ≡ None → get_or k w 0 ≡ 0
-  put_blank w e = pt.words w (word_apart w p (size0 S a) (λ z. cell_used S ok Todo t inv a p sa (final_cell S t a p fin) (subst (λ (x : ℕ). owner t x ≡ None) z e)) (cell_seg S ok Todo t inv a p sa (final_cell S t a p fin))) ∙ inv.blank w e
+  put_blank w e = pt.words w (word_apart w p (size0 S a) (λ z. cell_used S ok Todo t inv a p sa (final_cell S t a p fin) (rw (← z) e)) (cell_seg S ok Todo t inv a p sa (final_cell S t a p fin))) ∙ inv.blank w e
 
   put_body : Body S k a (rd S k p)
   put_body = record {
@@ -254,7 +254,7 @@ module _ (S : Start) (ok : Sound S) (Todo : ℕ → Type 0) (t : Heap) (inv : In
     where
       at : (j : ℕ) → Fits (Names S t.words) (get_or (slots0 S a) j (Number 0)) (get_or (slots_of (rd S k p)) j (Number 0))
       at j = elim (cases_eq j i) [
-        | inl e ↦ subst (λ (j : ℕ). Fits (Names S t.words) (get_or (slots0 S a) j (Number 0)) (get_or (slots_of (rd S k p)) j (Number 0))) (sym e)
+        | inl e ↦ rw e
             (rw (put_slots, get_or-set_same (slots_of (rd S t.words p)) i x (Number 0) inside) fits)
         | inr n ↦ rw (put_slots, get_or-set_other (slots_of (rd S t.words p)) i j x (Number 0) n) (body.names j)
       ]
@@ -265,11 +265,11 @@ module _ (S : Start) (ok : Sound S) (Todo : ℕ → Type 0) (t : Heap) (inv : In
     | inr n ↦ here (body_map S t.words k put_moves c (rd S t.words c) (rd S k c) (frame c c s (same refl) n) h)
   ]
   put_held c s (still w e) = elim (cases_eq c p) [
-    | inl f ↦ absurd (object_not_padding (rd S t.words p) (layout0 S a) (size0 S c) (slots_of (rd S t.words p)) body.shape (subst (λ (y : ℕ). rd S t.words y ≡ padding (size0 S c)) f e))
+    | inl f ↦ absurd (object_not_padding (rd S t.words p) (layout0 S a) (size0 S c) (slots_of (rd S t.words p)) body.shape (rw (← f) e))
     | inr n ↦ still w (frame c c s (same refl) n ∙ e)
   ]
   put_held c s (away d g h) = elim (cases_eq d p) [
-    | inl e ↦ away d (put_moves c d s g) (subst (λ (y : ℕ). Body S k c (rd S k y)) (sym e) (subst (λ (y : ℕ). Body S k y (rd S k p)) (sym (whose c d s (copy g) e)) put_body))
+    | inl e ↦ away d (put_moves c d s g) (rw e (rw (whose c d s (copy g) e) put_body))
     | inr n ↦ away d (put_moves c d s g) (body_map S t.words k put_moves c (rd S t.words d) (rd S k d) (frame c d s (copy g) n) h)
   ]
 
@@ -288,7 +288,7 @@ module _ (S : Start) (ok : Sound S) (Todo : ℕ → Type 0) (t : Heap) (inv : In
     marked = inv.marked;
     blank = put_blank;
     clean = λ c q s f. let g = back c q s.0 f in elim (cases_eq q p) [
-      | inl e ↦ inl (inr (subst Todo (sym e) todo))
+      | inl e ↦ inl (inr (rw e todo))
       | inr n ↦ elim (inv.clean c q s g) [
         | inl y ↦ inl y
         | inr h ↦ inr (clean_grows S t (put_words t k) put_grows c (rd S t.words q) (rd S k q) (frame c q s.0 (final_cell S t c q g) n) h)

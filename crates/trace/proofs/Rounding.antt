@@ -41,8 +41,8 @@ module _ (S : Start) (ok : Sound S) (laws : Lawful S.meaning) where
       record {
         grows = r.grows;
         inv = inv_todo S (λ q. Todo q ⊎ (q ≡ p)) (λ q. Todo q × (q ≢ p)) u r.inv (λ c q h g d. elim (cases_eq q p) [
-          | inl e ↦ inr (subst (λ (y : ℕ). Clean S u c (rd S u.words y)) (sym e)
-              (subst (λ (y : ℕ). Clean S u y (rd S u.words p)) (sym (one_place (λ q. Todo q ⊎ (q ≡ p)) u r.inv a c p q s.0 h.0 f' g e)) k))
+          | inl e ↦ inr (rw e
+              (rw (one_place (λ q. Todo q ⊎ (q ≡ p)) u r.inv a c p q s.0 h.0 f' g e) k))
           | inr n ↦ inl (elim d [ inl y ↦ (y, n) | inr y ↦ absurd (n y) ])
         ]);
       }
@@ -146,7 +146,7 @@ module _ (S : Start) (ok : Sound S) (laws : Lawful S.meaning) where
       let r = get_or rs k 0 in
       let e : get_or x.roots k 0 ≡ r = b.after k (omega arith) in
       let f : Fixed S Todo v r (fix_answer S.meaning S.plan v (get_or x.roots k 0)) (fixed S.meaning S.plan v (get_or x.roots k 0)) =
-      subst (λ (z : ℕ). Fixed S Todo v r (fix_answer S.meaning S.plan v z) (fixed S.meaning S.plan v z)) (sym e)
+      rw e
       (fix_ok S ok laws Todo v b.inv r r (names_map S t.words v.words b.grows.moves r r (h k (omega arith)))) in
       let u = fixed S.meaning S.plan v (get_or x.roots k 0) in
       let q = fix_answer S.meaning S.plan v (get_or x.roots k 0) in
@@ -154,8 +154,8 @@ module _ (S : Start) (ok : Sound S) (laws : Lawful S.meaning) where
         inv = f.inv;
         grows = grows_trans S t v u b.grows f.grows;
         settled = λ i l. elim (cases_eq i k) [
-          | inl z ↦ subst (λ (j : ℕ). Settled S u (get_or rs j 0) (get_or (set x.roots k q) j 0)) (sym z) (here_settled x.roots rs k q u b.long f.settled)
-          | inr n ↦ subst (Settled S u (get_or rs i 0)) (sym (get_or-set_other x.roots k i q 0 n)) (settled_grows S v u f.grows (get_or rs i 0) (get_or x.roots i 0) (b.settled i (omega arith)))
+          | inl z ↦ rw z (here_settled x.roots rs k q u b.long f.settled)
+          | inr n ↦ rw (get_or-set_other x.roots k i q 0 n) (settled_grows S v u f.grows (get_or rs i 0) (get_or x.roots i 0) (b.settled i (omega arith)))
         ];
         after = λ i l. get_or-set_other x.roots k i q 0 (omega arith) ∙ b.after i (omega arith);
         long = length-set x.roots k q ∙ b.long;
@@ -164,7 +164,7 @@ module _ (S : Start) (ok : Sound S) (laws : Lawful S.meaning) where
       -- past the registers there is null, and it stays
       here_settled : (qs rs : List ℕ) (k q : ℕ) (u : Heap) → length qs ≡ length rs → Settled S u (get_or rs k 0) q → Settled S u (get_or rs k 0) (get_or (set qs k q) k 0)
       here_settled qs rs k q u e s = elim (dec_lt k (length qs)) [
-        | yes l ↦ subst (Settled S u (get_or rs k 0)) (sym (get_or-set_same qs k q 0 l)) s
+        | yes l ↦ rw (get_or-set_same qs k q 0 l) s
         | no l ↦ empty (get_or_past rs k 0 (omega arith)) (ap (λ (z : List ℕ). get_or z k 0) (set_past qs k q (omega arith)) ∙ get_or_past qs k 0 (omega arith))
       ]
 

@@ -70,7 +70,7 @@ module _ (M : Meaning) (laws : Lawful M) (m : List ℕ) (e : ℕ) where
   in_row (suc k) a q (piece b s l r) h =
       let c = base_cases (ltb a e) (eqb a q) (is_base M m e k (a + span M (thing_at M m a)) q) h in
       elim c.1 [
-        | inl y ↦ subst (λ (z : ℕ). Within M m a e z) (eqb-true a q y) (record { low = omega arith; high = l; sort = sorted M laws m a s })
+        | inl y ↦ rw (← eqb-true a q y) (record { low = omega arith; high = l; sort = sorted M laws m a s })
         | inr y ↦ (let w = in_row k (a + span M (thing_at M m a)) q r y in record { low = omega (arith, w.low); high = w.high; sort = w.sort })
       ]
 
@@ -86,11 +86,11 @@ module _ (M : Meaning) (laws : Lawful M) (m : List ℕ) (e : ℕ) where
         | inl x ↦ elim d.1 [
           | inl y ↦ inl (sym (eqb-true a p x) ∙ eqb-true a q y)
           | inr y ↦ (let w = in_row k (a + span M (thing_at M m a)) q r y in
-              inr (subst (λ (z : ℕ). Apart z (span M (thing_at M m z)) q (span M (thing_at M m q))) (eqb-true a p x) (inl w.low)))
+              inr (rw (← eqb-true a p x) (inl w.low)))
         ]
         | inr x ↦ elim d.1 [
           | inl y ↦ (let w = in_row k (a + span M (thing_at M m a)) p r x in
-              inr (subst (λ (z : ℕ). Apart p (span M (thing_at M m p)) z (span M (thing_at M m z))) (eqb-true a q y) (inr w.low)))
+              inr (rw (← eqb-true a q y) (inr w.low)))
           | inr y ↦ row_apart k (a + span M (thing_at M m a)) p q r x y
         ]
       ]
@@ -100,7 +100,7 @@ owner_is None h = absurd (both_ways false refl h)
 owner_is (Some p) h = (p, refl)
 
 pub self_object : (x : Thing) (l : ℕ) (ss : List Slot) → x ≡ object l ss → x ≡ object (layout_of x) (slots_of x)
-self_object x l ss e = subst (λ (z : Thing). z ≡ object (layout_of z) (slots_of z)) (sym e) refl
+self_object x l ss e = rw e refl
 
 module _ (S : Start) (laws : Lawful S.meaning) (ar : SoundSpace S.meaning S.plan.classes S.space) where
   abbrev M : Meaning
@@ -233,7 +233,7 @@ module _ (S : Start) (laws : Lawful S.meaning) (ar : SoundSpace S.meaning S.plan
     leaf_of : (a : ℕ) (s : Std S a) → leafy S (seat a s).pool ≡ true → AllFit Null (slots0 S a) (slots0 S a)
     leaf_of a s h = elim (sound.thing a s) [
       | inl e ↦ (λ i. leaf_fit (get_or (slots0 S a) i (Number 0)) (ar.leaves a (layout0 S a) i (seat a s).pool (slots0 S a) (at_obj a (s, e)) (seat a s).owner h))
-      | inr e ↦ subst (λ (z : Thing). AllFit Null (slots_of z) (slots_of z)) (sym e) (λ i. refl)
+      | inr e ↦ rw e (λ i. refl)
     ]
 
     owned_at : (a : ℕ) → Std S a → Owned S t a
@@ -258,7 +258,7 @@ module _ (S : Start) (laws : Lawful S.meaning) (ar : SoundSpace S.meaning S.plan
       long = ap length fr.words;
       ready = record {
         whole = ap (λ (k : List ℕ). length k % 256) fr.words ∙ ar.whole.0;
-        few = subst (λ (k : List ℕ). length k ≤ 65536) (sym fr.words) ar.whole.1;
+        few = rw fr.words ar.whole.1;
         owned = λ p h. absurd (no_aim p h);
         unused = λ s e. fr.safe s (sym (own s) ∙ e);
         marks = fr.marks ∙ sym (ap length fr.words);
@@ -270,14 +270,14 @@ module _ (S : Start) (laws : Lawful S.meaning) (ar : SoundSpace S.meaning S.plan
       held = held_at;
       apart = λ a p c q s r e f. join a p c q (cell a p s e) (cell c q r f) (sound.apart a c s r);
       copied = λ a d s g. absurd (no_move a d s g);
-      room = λ w a p f s e. subst (λ (q : ℕ). (w < q) ⊎ (q + size0 S a ≤ w)) (sym (cell a p s e)) (outside_cells w a s f);
+      room = λ w a p f s e. rw (cell a p s e) (outside_cells w a s f);
       greys = λ p h. absurd (both_ways (grey t p) (fr.white p) h);
-      bound = λ p h. subst (λ (n : ℕ). n ≤ p) (sym fr.low) (omega arith);
+      bound = λ p h. rw fr.low (omega arith);
       fill = record {
         fronts = λ s p e o. absurd (pool_not_free p (owner0 S s) (sym (own s) ∙ o) e);
         aims = λ p h. absurd (no_aim p h);
         empty = λ s e. sym (own s) ∙ e;
-        pools = λ s p e. (let o = ar.owned s p (sym (own s) ∙ e) in (o.0, subst (λ (k : List ℕ). s * 256 + 256 ≤ length k) (sym fr.words) o.1));
+        pools = λ s p e. (let o = ar.owned s p (sym (own s) ∙ e) in (o.0, rw fr.words o.1));
         low = own 0 ∙ ar.first;
         plain = λ s p e o. absurd (pool_not_free p (owner0 S s) (sym (own s) ∙ o) e);
       };

@@ -25,7 +25,7 @@ free_found (suc k) g s r e = go (λ z. free_found k g (s + 1) r z) (owner_of g s
     go rec None f =
         let z : Some s ≡ Some r = subst (λ (o : Owner). free_or o s (free_among k g (s + 1)) ≡ Some r) f e in
         let y : s ≡ r = cc in
-        (omega arith, omega arith, subst (λ (x : ℕ). owner_of g x ≡ None) y f)
+        (omega arith, omega arith, rw (← y) f)
     go rec (Some p) f =
         let z : free_among k g (s + 1) ≡ Some r = subst (λ (o : Owner). free_or o s (free_among k g (s + 1)) ≡ Some r) f e in
         let n = rec z in
@@ -68,7 +68,7 @@ module _ (S : Start) (t : Heap) (ready : Ready S t) (p b : ℕ) (spot : Spot t p
             low = omega (arith, k.2);
             inside = rw (← e) k.1;
             safe = rw (← e) k.3;
-            others = λ q ne g f. ne (pool_same q p (owner t (b / 256)) (subst (λ (x : ℕ). owner t x ≡ Some q) f (ready.owned q g).0) o);
+            others = λ q ne g f. ne (pool_same q p (owner t (b / 256)) (rw (← f) (ready.owned q g).0) o);
             free = λ v x y. ahead p (omega arith) (rw e y) (rw e h);
           }
       go (opening z low h e) =
@@ -76,7 +76,7 @@ module _ (S : Start) (t : Heap) (ready : Ready S t) (p b : ℕ) (spot : Spot t p
             low = low;
             inside = h;
             safe = ready.unused (b / 256) e;
-            others = λ q ne g f. pool_not_free q (owner t (b / 256)) (subst (λ (x : ℕ). owner t x ≡ Some q) f (ready.owned q g).0) e;
+            others = λ q ne g f. pool_not_free q (owner t (b / 256)) (rw (← f) (ready.owned q g).0) e;
             free = λ v x y.
                 let k : v / 256 ≡ b / 256 = omega arith in
                 unused (omega arith) (omega arith) (rw k e);
@@ -85,14 +85,14 @@ module _ (S : Start) (t : Heap) (ready : Ready S t) (p b : ℕ) (spot : Spot t p
   -- after the copy
   module _ (u : Heap) (long : length u.words ≡ length t.words) (on : Onto t u p b n) where
     not_ours : (s : ℕ) → owner u s ≡ None → s ≢ b / 256
-    not_ours s e f = pool_not_free p (owner u (b / 256)) on.own_same (subst (λ (x : ℕ). owner u x ≡ None) f e)
+    not_ours s e f = pool_not_free p (owner u (b / 256)) on.own_same (rw (← f) e)
 
     -- a segment in use keeps its owner
     pub owner_onto : (s : ℕ) → owner t s ≢ None → owner u s ≡ owner t s
     owner_onto s n = elim (cases_eq s (b / 256)) [ inr ne ↦ on.own_other s ne | inl e ↦ ap (owner u) e ∙ go e spot ∙ ap (owner t) (sym e) ]
       where
         go : s ≡ b / 256 → Spot t p b → owner u (b / 256) ≡ owner t (b / 256)
-        go e (onward f h) = on.own_same ∙ sym (subst (λ (x : ℕ). owner t (x / 256) ≡ Some p) f (ready.owned p (subst (λ (x : ℕ). 1 ≤ x % 256) (sym f) h)).0)
+        go e (onward f h) = on.own_same ∙ sym (rw (← f) (ready.owned p (rw f h)).0)
         go e (opening z low h f) = absurd (n (ap (owner t) e ∙ f))
 
     pub ready_onto : length u.marks ≡ length t.marks → length u.greys ≡ length t.greys → length u.state.segments.owners ≡ 256 → length u.state.targets ≡ 8 → Ready S u

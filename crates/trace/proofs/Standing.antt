@@ -59,8 +59,8 @@ module _ (S : Start) (ok : Sound S) (laws : Lawful S.meaning) (t : Heap) (inv : 
       let low : a < e = omega arith in
       let s = h a (first a low) in
       let c = cell_real S ok m inv.held a a s.0 (same refl) in
-      piece a (go (inv.held a s.0) s.0 s.1) (subst (λ (n : ℕ). a + n ≤ e) (sym c.span) l)
-      (subst (λ (n : ℕ). Row M m e (a + n)) (sym c.span) (row_now e (a + size0 S a) r (λ q x. h q (next a q low x))))
+      piece a (go (inv.held a s.0) s.0 s.1) (rw c.span l)
+      (rw c.span (row_now e (a + size0 S a) r (λ q x. h q (next a q low x))))
     where
       go : Held S m a → Std S a → condemns S.plan a ≡ false → Piece (rd S m a)
       go (here b) s c = object_piece (rd S m a) (layout0 S a) (slots_of (rd S m a)) b.shape
@@ -83,7 +83,7 @@ module _ (S : Start) (ok : Sound S) (laws : Lawful S.meaning) (t : Heap) (inv : 
         | inr e ↦ row_now (s * 256 + 256) (s * 256) (rows s e.0 e.1) (λ q b. (
           standing s e.0 q e.1 b,
           (let i = base_link S S.space.words (s * 256 + 256) (s * 256) q (row_chain S laws S.space.words (s * 256 + 256) (s * 256) (rows s e.0 e.1)) b in
-              let z : q / 256 ≡ s = omega (arith, i.0, i.1, i.2.some) in subst (λ (x : ℕ). get_or S.plan.condemned x false ≡ false) (sym z) c),
+              let z : q / 256 ≡ s = omega (arith, i.0, i.1, i.2.some) in rw z c),
         ))
       ]
 
@@ -160,7 +160,7 @@ module _ (S : Start) (ok : Sound S) (laws : Lawful S.meaning) (t : Heap) (inv : 
           }
 
   pub final_stands : (a p : ℕ) → Obj S a → Final S t a p → Stands p
-  final_stands a p o (stay e h) = subst Stands (sym e) (stay_stands a o h)
+  final_stands a p o (stay e h) = rw e (stay_stands a o h)
   final_stands a p o (move g) = move_stands a p o g
 
   -- in the pool where it was
@@ -216,12 +216,12 @@ module _ (S : Start) (ok : Sound S) (laws : Lawful S.meaning) (t : Heap) (inv : 
             let ch = row_chain S laws m (q / 256 * 256 + 256) (q / 256 * 256) h.row in
             let y = base_back S laws m k (q / 256 * 256 + 256) (q / 256 * 256) f (q / 256 * 256) q (omega arith) ch b in
             let l = base_link S m (q / 256 * 256 + 256) (q / 256 * 256) q ch y in
-            let v = h.owner q y (subst (λ (x : Thing). is_object x ≡ true) (f q l.0 l.2 l.1) i) in
+            let v = h.owner q y (rw (← f q l.0 l.2 l.1) i) in
             record { from = v.0; obj = v.1.0; final = move v.1.1 })
         | inr z ↦ (let ch = chain_now S ok laws (λ q. ⊥) t inv (q / 256 * 256 + 256) (q / 256 * 256) (rows (q / 256) z.0 z.1) (λ v x. standing (q / 256) z.0 v z.1 x) in
             let y = base_back S laws m k (q / 256 * 256 + 256) (q / 256 * 256) f (q / 256 * 256) q (omega arith) ch b in
             let l = base_link S m (q / 256 * 256 + 256) (q / 256 * 256) q ch y in
-            by_old z.0 z.1 c y (subst (λ (x : Thing). is_object x ≡ true) (f q l.0 l.2 l.1) i))
+            by_old z.0 z.1 c y (rw (← f q l.0 l.2 l.1) i))
       ]
 
   module _ (white : (p : ℕ) → grey t p ≡ false) where
@@ -242,7 +242,7 @@ module _ (S : Start) (ok : Sound S) (laws : Lawful S.meaning) (t : Heap) (inv : 
     refs_next q o i =
         let c = comes q o in
         let s = final_stands c.from q c.obj c.final in
-        subst (λ (x : Thing). Fits (Names T k) (get_or (slots_of x) i (Number 0)) (get_or (slots_of x) i (Number 0))) (sym s.reads)
+        rw s.reads
         (fits_next (get_or (slots0 S c.from) i (Number 0)) (get_or (slots_of (rd S m q)) i (Number 0)) (cleaned c.from q c.obj c.final i))
 
     null_next : (x y : Slot) → Fits Null x x → Fits (Settled S t) x y → Fits Null y y
@@ -258,7 +258,7 @@ module _ (S : Start) (ok : Sound S) (laws : Lawful S.meaning) (t : Heap) (inv : 
         let i = in_row M laws k (q / 256 * 256 + 256) 256 (q / 256 * 256) q (rows_next (q / 256) p w) c.1 in
         elim i.sort.kind [
           | inl x ↦ by (comes q (h, x)) (final_stands (comes q (h, x)).from q (comes q (h, x)).obj (comes q (h, x)).final)
-          | inr x ↦ subst (λ (y : Thing). AllFit Null (slots_of y) (slots_of y)) (sym x) (λ i. refl)
+          | inr x ↦ rw x (λ i. refl)
         ]
       where
         calm_owner : (q2 : ℕ) → owner t (q / 256) ≡ Some q2
@@ -273,16 +273,16 @@ module _ (S : Start) (ok : Sound S) (laws : Lawful S.meaning) (t : Heap) (inv : 
             go : Final S t c.from q → AllFit Null (slots0 T q) (slots0 T q)
             go (stay e y) =
                 let o = inv.owned c.from c.obj.0 in
-                let z : p ≡ o.pool = calm_owner o.pool (subst (λ (v : ℕ). owner t (v / 256) ≡ Some o.pool) (sym e) o.is) (out (q / 256)) in
-                let l = o.leaf (subst (λ (v : ℕ). leafy S v ≡ true) z lf) in
-                subst (λ (y : Thing). AllFit Null (slots_of y) (slots_of y)) (sym s.reads)
+                let z : p ≡ o.pool = calm_owner o.pool (rw e o.is) (out (q / 256)) in
+                let l = o.leaf (rw (← z) lf) in
+                rw s.reads
                 (λ i. null_next (get_or (slots0 S c.from) i (Number 0)) (get_or (slots_of (rd S m q)) i (Number 0)) (l i) (cleaned c.from q c.obj c.final i))
             go (move g) =
                 let h = inv.copied c.from q c.obj.0 g in
                 elim (owner_cases (owner t (q / 256))) [
                   | inl z ↦ absurd (elim (inv.room q c.from q (unused h.low (omega (arith, h.high, ok.some c.from c.obj.0)) z) c.obj.0 (copy g)) [ inl x ↦ omega arith | inr x ↦ omega (arith, ok.some c.from c.obj.0) ])
                   | inr z ↦ (let y = calm_owner z.0 z.1 (out (q / 256)) in
-                      absurd (both_ways (leafy S z.0) (inv.fill.plain (q / 256) z.0 h.fresh z.1) (subst (λ (v : ℕ). leafy S v ≡ true) y lf)))
+                      absurd (both_ways (leafy S z.0) (inv.fill.plain (q / 256) z.0 h.fresh z.1) (rw (← y) lf)))
                 ]
 
     leads_next : (x : Slot) → Fits (Names T k) x x → SlotLeads M T.space x
@@ -312,8 +312,8 @@ module _ (S : Start) (ok : Sound S) (laws : Lawful S.meaning) (t : Heap) (inv : 
       first = zero_owner (out 0);
       owned = λ s p e. let o = inv.fill.pools s p (own_before s p e) in (o.0, omega (arith, long, o.1));
       rows = rows_next;
-      leads = λ a l i ss o. subst (λ (zs : List Slot). SlotLeads M T.space (get_or zs i (Number 0))) (slots_are a l ss o.1) (leads_next (get_or (slots0 T a) i (Number 0)) (refs_next a (o.0, self_object (thing0 T a) l ss o.1) i));
-      leaves = λ a l i p ss o w h. subst (λ (zs : List Slot). SlotLeaf (get_or zs i (Number 0))) (slots_are a l ss o.1) (leaf_next (get_or (slots0 T a) i (Number 0)) (leafs_next a p o.0 w h i));
+      leads = λ a l i ss o. rw (← slots_are a l ss o.1) (leads_next (get_or (slots0 T a) i (Number 0)) (refs_next a (o.0, self_object (thing0 T a) l ss o.1) i));
+      leaves = λ a l i p ss o w h. rw (← slots_are a l ss o.1) (leaf_next (get_or (slots0 T a) i (Number 0)) (leafs_next a p o.0 w h i));
       blank = λ w e. still_blank w e (out (w / 256));
     }
       where

@@ -44,7 +44,7 @@ module _ (S : Start) (laws : Lawful S.meaning) (ms : List ℕ) where
     wiped : c ≡ true → p ≡ None → ((q : ℕ) → Base S m (j * 256 + 256) (j * 256) q → bit ms q ≡ false) → ((w : ℕ) → w / 256 ≡ j → get_or k w 0 ≡ 0) → Outcome c j m k o p
 
   alike_trans : (j : ℕ) (m k l : List ℕ) → Alike j m k → Alike j k l → Alike j m l
-  alike_trans j m k l f g q a n h = let e = f q a n h in g q a (subst (Link S) (sym e) n) (subst (λ (x : Thing). q + span S.meaning x ≤ j * 256 + 256) (sym e) h) ∙ e
+  alike_trans j m k l f g q a n h = let e = f q a n h in g q a (rw e n) (rw e h) ∙ e
 
   tidy_on : (j : ℕ) (m k l : List ℕ) → Tidy j m k → Alike j k l → Tidy j m l
   tidy_on j m k l t f =
@@ -55,7 +55,7 @@ module _ (S : Start) (laws : Lawful S.meaning) (ms : List ℕ) where
         old = λ q b o.
             let c = base_back S laws k l (j * 256 + 256) (j * 256) f (j * 256) q (omega arith) ch b in
             let i = base_link S k (j * 256 + 256) (j * 256) q ch c in
-            t.old q c (subst (λ (x : Thing). is_object x ≡ true) (f q i.0 i.2 i.1) o);
+            t.old q c (rw (← f q i.0 i.2 i.1) o);
         new = λ q b h. base_on S laws k l (j * 256 + 256) (j * 256) f (j * 256) q (omega arith) ch (t.new q b h);
       }
 
@@ -120,7 +120,7 @@ module _ (S : Start) (laws : Lawful S.meaning) (ms : List ℕ) where
     long = l ∙ a.long;
     many = n ∙ a.many;
     past = λ j k. elim (cases_eq j s) [
-      | inl e ↦ subst (λ (j : ℕ). Outcome (get_or cs j false) j m y.words (owner_of g j) (owner_of y.segments j)) (sym e) o
+      | inl e ↦ rw e o
       | inr ne ↦ outcome_on (get_or cs j false) j m x.words y.words (owner_of g j) (owner_of x.segments j) (owner_of y.segments j) (a.past j (omega arith)) (f j ne) (v j ne) (h j ne)
     ];
     coming = λ j k. let c = a.coming j (omega arith) in (alike_trans j m x.words y.words c.0 (f j (omega arith)), h j (omega arith) ∙ c.1, λ w z. v j (omega arith) w z ∙ c.2 w z);
@@ -164,7 +164,7 @@ module _ (S : Start) (laws : Lawful S.meaning) (ms : List ℕ) where
     swept_cases = elim walked_row.which [
       | inr l ↦ (let e : eqb last.run (s * 256) ≡ false = ne_eqb last.run (s * 256) (λ z. omega arith) in
           inl (record {
-            words = subst (Swept S laws ms (end_of_segment s) (s * 256) (s * 256) k) (sym (cond-true (in_arena (length k) s) (last_words M s last) k in_it ∙ cond-false (eqb last.run (s * 256)) (freed_words last.words s) _ e)) walked_row.swept;
+            words = rw (cond-true (in_arena (length k) s) (last_words M s last) k in_it ∙ cond-false (eqb last.run (s * 256)) (freed_words last.words s) _ e) walked_row.swept;
             segments = cond-true (in_arena (length k) s) (last_segments h s last) h in_it ∙ cond-false (eqb last.run (s * 256)) (freed h (length last.words) s) h e;
           }))
       | inl x ↦ (let e : eqb last.run (s * 256) ≡ true = eq-eqb last.run (s * 256) x.0.1 in
@@ -191,7 +191,7 @@ module _ (S : Start) (laws : Lawful S.meaning) (ms : List ℕ) where
         let ob : (q : ℕ) → Base S x.words (s * 256 + 256) (s * 256) q → bit ms q ≡ true → rd S x.words q ≡ object (layout_of (rd S x.words q)) (slots_of (rd S x.words q)) =
         λ q b h. let c = base_back S laws m x.words (s * 256 + 256) (s * 256) al (s * 256) q (omega arith) f.chain b in
         let i = base_link S m (s * 256 + 256) (s * 256) q f.chain c in
-        subst (λ (z : Thing). z ≡ object (layout_of z) (slots_of z)) (sym (al q i.0 i.2 i.1)) (f.marked q c h) in
+        rw (al q i.0 i.2 i.1) (f.marked q c h) in
         elim (swept_cases s x.words x.segments ins ch ob) [
           | inl kp ↦ (let sw = kp.words in
               let k = swept_words M x.words ms s in
@@ -200,7 +200,7 @@ module _ (S : Start) (laws : Lawful S.meaning) (ms : List ℕ) where
               (λ j ne. ap (λ (z : Segments). owner_of z j) kp.segments)
               (tidy ec (ap (λ (z : Segments). owner_of z s) kp.segments ∙ (a.coming s (omega arith)).1)
               (tidy_from s m x.words k f.chain al (record { kept = sw.kept; row = sw.row; old = sw.old; new = sw.new }))))
-          | inr fr ↦ subst (After m g y.condemned (suc s)) (sym (ap (λ (h : Segments). ground h (swept_words M x.words ms s)) fr.segments ∙ ap (ground (record { owners = set x.segments.owners s None })) fr.words))
+          | inr fr ↦ rw (ap (λ (h : Segments). ground h (swept_words M x.words ms s)) fr.segments ∙ ap (ground (record { owners = set x.segments.owners s None })) fr.words)
               (step_past m g y.condemned s x (ground (record { owners = set x.segments.owners s None }) (wiped_words s x.words ins)) a
               (length_put (s * 256) 256 x.words (replicate 256 0) ins (length-replicate {A = ℕ} 256 0)) (length-set x.segments.owners s None)
               (λ j ne. wipe_alike s x.words ins j ne) (λ j ne. wipe_words s x.words ins j ne) (λ j ne. get_or-set_other x.segments.owners s j None None ne)
@@ -211,9 +211,9 @@ module _ (S : Start) (laws : Lawful S.meaning) (ms : List ℕ) where
 
     sweep_one_ok : (s : ℕ) → s < 256 → (x : Ground) → After m g y.condemned s x → After m g y.condemned (suc s) (segment_swept M y ms x s)
     sweep_one_ok s small x a = elim (cases_Bool (get_or y.condemned s false)) [
-      | inr ec ↦ subst (After m g y.condemned (suc s)) (sym (cond-false (get_or y.condemned s false) _ x ec))
+      | inr ec ↦ rw (cond-false (get_or y.condemned s false) _ x ec)
           (step_past m g y.condemned s x x a refl refl (λ j ne q l n h. refl) (λ j ne w z. refl) (λ j ne. refl) (calm ec (a.coming s (omega arith)).1 (a.coming s (omega arith)).0 (a.coming s (omega arith)).2))
-      | inl ec ↦ subst (After m g y.condemned (suc s)) (sym (cond-true (get_or y.condemned s false) _ x ec)) (condemned_ok s small x a ec)
+      | inl ec ↦ rw (cond-true (get_or y.condemned s false) _ x ec) (condemned_ok s small x a ec)
     ]
 
     pub sweep_all_ok : (k : ℕ) → k ≤ 256 → After m g y.condemned k (segments_swept M y ms (ground g m) k)

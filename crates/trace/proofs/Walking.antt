@@ -60,13 +60,13 @@ module _ (S : Start) (ok : Sound S) (laws : Lawful S.meaning) where
       → Went S (λ q. Todo q × (q ≢ a)) t (scanned M S.plan t a)
   scan_piece Todo sub t inv a s c = elim (ok.thing a s) [
     | inl e ↦ scan_place S ok laws Todo t a a (inv_todo S Todo (λ q. Todo q ⊎ (q ≡ a)) t inv (λ x q h f d. inl (inl d))) (s, e) (stay refl (stays_by_zone S t a c))
-    | inr e ↦ subst (λ (u : Heap). Went S (λ q. Todo q × (q ≢ a)) t u) (sym (scan_padding Todo t inv a s e))
+    | inr e ↦ rw (scan_padding Todo t inv a s e)
         (record {
           grows = grows_refl S t;
           inv = inv_todo S Todo (λ q. Todo q × (q ≢ a)) t inv (λ x q h f d. inl (
             d,
             λ z.
-                object_not_padding (thing0 S a) (layout0 S a) (size0 S a) (slots0 S a) (subst (λ (y : ℕ). thing0 S y ≡ object (layout0 S y) (slots0 S y)) z (sub q d).1) e,
+                object_not_padding (thing0 S a) (layout0 S a) (size0 S a) (slots0 S a) (rw (← z) (sub q d).1) e,
           ));
         })
   ]
@@ -81,19 +81,19 @@ module _ (S : Start) (ok : Sound S) (laws : Lawful S.meaning) where
       record { grows = grows_refl S t; inv = inv_todo S Todo (λ q. Todo q × (false ≡ false)) t inv (λ x q g f d. inl (d, refl)) }
   scan_row_ok e s (suc k) Todo sub a t ends h c inv =
       let z = le-ltb e e (omega arith) in
-      subst (Went S (λ q. Todo q × (is_base M m e (suc k) e q ≡ false)) t) (sym (cond-false (ltb e e) _ t z))
+      rw (cond-false (ltb e e) _ t z)
       (record { grows = grows_refl S t; inv = inv_todo S Todo (λ q. Todo q × (is_base M m e (suc k) e q ≡ false)) t inv (λ x q g f d. inl (d, ap (λ (b : Bool). b && (eqb e q || is_base M m e k (e + size0 S e) q)) z)) })
   scan_row_ok e s (suc k) Todo sub a t (piece b pc l r) h c inv =
       let some = (sorted M laws m a pc).some in
       let low : a < e = omega arith in
       let w = h a (base_first M m e k a low) in
-      let o = scan_piece Todo sub t inv a w.0 (subst (λ (x : ℕ). get_or S.plan.condemned x false ≡ false) (sym w.1) c) in
+      let o = scan_piece Todo sub t inv a w.0 (rw w.1 c) in
       let u = scanned M S.plan t a in
       let z : end_at M e t a ≡ a + size0 S a = end_is Todo t inv e a w.0 l in
       let i = scan_row_ok e s k (λ q. Todo q × (q ≢ a)) (λ q d. sub q d.0) (a + size0 S a) u r (λ q g. h q (base_later M m e k a low q g)) c o.inv in
       let v = scan_walk e k u (a + size0 S a) in
       let y : scan_walk e (suc k) t a ≡ v = cond-true (ltb a e) _ t (lt-ltb a e low) ∙ ap (scan_walk e k u) z in
-      subst (λ (x : Heap). Went S (λ q. Todo q × (is_base M m e (suc k) a q ≡ false)) t x) (sym y)
+      rw y
       (record {
         grows = grows_trans S t u v o.grows i.grows;
         inv = inv_todo S (λ q. (Todo q × (q ≢ a)) × (is_base M m e k (a + size0 S a) q ≡ false)) (λ q. Todo q × (is_base M m e (suc k) a q ≡ false)) v i.inv
@@ -177,10 +177,10 @@ module _ (S : Start) (ok : Sound S) (laws : Lawful S.meaning) where
       go (here b) =
           let z = body_size S ok t.words a (rd S t.words a) b in
           let w = nail_ok S ok laws Todo t inv a (s, b.was) b in
-          subst (λ (x : Head). Nails Todo t (nailed_at t (base_of x a))) (sym (seen_object M laws t.words a (layout0 S a) (slots_of (rd S t.words a)) b.shape e (omega arith)))
+          rw (seen_object M laws t.words a (layout0 S a) (slots_of (rd S t.words a)) b.shape e (omega arith))
           (record { inv = w.inv; grows = w.grows; words = refl })
-      go (away d g h) = subst (λ (x : Head). Nails Todo t (nailed_at t (base_of x a))) (sym (seen_forwarded M laws t.words a e (size0 S a) l d g)) (nails_none Todo t inv)
-      go (still w f) = subst (λ (x : Head). Nails Todo t (nailed_at t (base_of x a))) (sym (seen_padding M laws t.words a e (size0 S a) l f)) (nails_none Todo t inv)
+      go (away d g h) = rw (seen_forwarded M laws t.words a e (size0 S a) l d g) (nails_none Todo t inv)
+      go (still w f) = rw (seen_padding M laws t.words a e (size0 S a) l f) (nails_none Todo t inv)
 
   abbrev point : Heap → ℕ → ℕ → ℕ → ℕ → Option ℕ
   point t e w k a = pointed M t.words t.marks e w k a
@@ -199,7 +199,7 @@ module _ (S : Start) (ok : Sound S) (laws : Lawful S.meaning) where
       let low : a < e = omega arith in
       let s = h a (base_first M m e k a low) in
       let i = nail_row_ok e w k Todo t (a + size0 S a) r (λ q g. h q (base_later M m e k a low q g)) inv in
-      subst (λ (o : Option ℕ). Nails Todo t (nailed_at t o)) (sym (point_step Todo t inv e w k a low s l))
+      rw (point_step Todo t inv e w k a low s l)
       (cond_both (ltb w (a + size0 S a)) (base_of (head_of t.words e a) a) (point t e w k (a + size0 S a)) (λ o. Nails Todo t (nailed_at t o))
       (λ _. nail_here Todo t inv e a s l) (λ _. i))
 
@@ -224,8 +224,8 @@ module _ (S : Start) (ok : Sound S) (laws : Lawful S.meaning) where
     where
       found : a ≡ q → cond (ltb w (a + size0 S a)) (base_of (head_of t.words e a) a) (point t e w k (a + size0 S a)) ≡ Some q
       found z =
-          let hi' : w < a + size0 S a = subst (λ (v : ℕ). w < v + size0 S v) (sym z) hi in
-          let w' : rd S t.words a ≡ object (layout0 S q) (slots0 S q) = ap (λ (ws : List ℕ). rd S ws a) f ∙ subst (λ (v : ℕ). rd S m v ≡ object (layout0 S q) (slots0 S q)) (sym z) o.1 in
+          let hi' : w < a + size0 S a = rw z hi in
+          let w' : rd S t.words a ≡ object (layout0 S q) (slots0 S q) = ap (λ (ws : List ℕ). rd S ws a) f ∙ rw z o.1 in
           let n : M.size (shape (layout0 S q) (length (slots0 S q))) ≡ size0 S a = sym (ap (span M) o.1) ∙ ap (size0 S) (sym z) in
           cond-true (ltb w (a + size0 S a)) _ _ (lt-ltb w (a + size0 S a) hi')
           ∙ ap (λ (x : Head). base_of x a) (seen_object M laws t.words a (layout0 S q) (slots0 S q) w' e (omega arith)) ∙ ap Some z
@@ -252,10 +252,10 @@ module _ (S : Start) (ok : Sound S) (laws : Lawful S.meaning) where
 
     nail_one_ok : (t : Heap) → Inv S Todo t → (w : ℕ) → Nails Todo t (nail t w)
     nail_one_ok t inv w = elim (cases_Bool (nails S.plan (length t.words) w)) [
-      | inr e ↦ subst (Nails Todo t) (sym (cond-false (nails S.plan (length t.words) w) _ t e)) (nails_none Todo t inv)
+      | inr e ↦ rw (cond-false (nails S.plan (length t.words) w) _ t e) (nails_none Todo t inv)
       | inl e ↦ (let u = used (w / 256) (nails_condemned (length t.words) w e) in
           let r = rows (w / 256) u.0 u.1 in
-          subst (Nails Todo t) (sym (cond-true (nails S.plan (length t.words) w) _ t e ∙ ap (nailed_at t) (nail_is t w)))
+          rw (cond-true (nails S.plan (length t.words) w) _ t e ∙ ap (nailed_at t) (nail_is t w))
           (nail_row_ok (w / 256 * 256 + 256) w 256 Todo t (w / 256 * 256) r.0 (λ q h. (r.1 q h).0) inv))
     ]
 
@@ -282,8 +282,8 @@ module _ (S : Start) (ok : Sound S) (laws : Lawful S.meaning) where
         let u = used (q / 256) c in
         let r = rows (q / 256) u.0 u.1 in
         let p : point t (w / 256 * 256 + 256) w 256 (w / 256 * 256) ≡ Some q =
-        subst (λ (s : ℕ). point t (s * 256 + 256) w 256 (s * 256) ≡ Some q) (sym z) (nail_row_finds (q / 256 * 256 + 256) w 256 Todo t (q / 256 * 256) q f r.0 (λ v h. (r.1 v h).0) inv b o bot hi) in
-        subst (λ (x : Heap). marked x q ≡ true) (sym (cond-true (nails S.plan (length t.words) w) _ t e ∙ ap (nailed_at t) (nail_is t w ∙ p)))
+        rw z (nail_row_finds (q / 256 * 256 + 256) w 256 Todo t (q / 256 * 256) q f r.0 (λ v h. (r.1 v h).0) inv b o bot hi) in
+        rw (cond-true (nails S.plan (length t.words) w) _ t e ∙ ap (nailed_at t) (nail_is t w ∙ p))
         ((laws_of t.marks).set_same q (omega (arith, i, inv.ready.marks, inv.ready.few, inv.long, ok.some q o.0)))
       where
         yes_nails : (x y z c : Bool) → x ≡ false → y ≡ false → z ≡ true → c ≡ true → (not (x || y) && (z && c)) ≡ true
@@ -297,6 +297,6 @@ module _ (S : Start) (ok : Sound S) (laws : Lawful S.meaning) where
         let n = nail_all_ok ws t inv k in
         let u = nail_one_ok v n.inv (get_or ws k 0) in
         elim (cases_eq i k) [
-          | inl z ↦ nail_marks_one v n.inv (n.words ∙ f) (get_or ws k 0) q o b c (subst (λ (j : ℕ). q ≤ get_or ws j 0) z bot) (subst (λ (j : ℕ). get_or ws j 0 < q + size0 S q) z hi)
+          | inl z ↦ nail_marks_one v n.inv (n.words ∙ f) (get_or ws k 0) q o b c (rw (← z) bot) (rw (← z) hi)
           | inr ne ↦ u.grows.marks q (nail_marks ws t inv f k i q (omega arith) o b c bot hi)
         ]

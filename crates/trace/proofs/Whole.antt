@@ -89,7 +89,7 @@ zones_have y g zero s l c m = absurd (omega arith)
 zones_have y g (suc k) s l c m = elim (cases_eq s k) [
   | inr n ↦ joined_left (zones_of y g k) (zone_if y g k) (zone_of (s * 256)) (zones_have y g k s (omega arith) c m)
   | inl e ↦ joined_right (zones_of y g k) (zone_if y g k) (zone_of (s * 256))
-      (subst (λ (j : ℕ). has_zone (zone_if y g j) (zone_of (s * 256)) ≡ true) e
+      (rw (← e)
       (rw (cond-true (get_or y.condemned s false && moves y.classes (owner_of g s)) (zone_bit (s * 256)) 0 (and_from _ _ c m)) (own_zone (s * 256))))
 ]
 
@@ -98,7 +98,7 @@ pub aged_zone : (y : Plan) (g : Segments) (a : ℕ) → a / 256 < 256 → condem
 unfolding all_zones
 aged_zone y g a l c m =
     let e : zone_of (a / 256 * 256) ≡ zone_of a = omega arith in
-    subst (λ (z : ℕ). has_zone (zones_of y g 256) z ≡ true) e (zones_have y g 256 (a / 256) l c m)
+    rw (← e) (zones_have y g 256 (a / 256) l c m)
 
 -- ---- closing buffers leaves as many words
 
