@@ -60,7 +60,7 @@ pub busy_off : (S : Start) (t : Heap) (w : ℕ) → busy S t w ≡ false → gre
 busy_off S t w h = go (loose S t w) (grey t w) h
   where
     go : (x y : Bool) → (x || y) ≡ false → y ≡ false
-    go true y h = absurd (both_ways true h refl)
+    go true y h = absurd (cc)
     go false y h = h
 
 not_busy : (S : Start) (t : Heap) (w : ℕ) → (Loose S t w → ⊥) → (grey t w ≡ true → ⊥) → busy S t w ≡ false
@@ -81,7 +81,7 @@ object_is : (S : Start) (m : List ℕ) (a p : ℕ) → Body S m a (rd S m p) →
 object_is S m a p b = rw b.shape refl
 
 object_not : (x : Thing) (n b : ℕ) → x ≡ forwarded n b → is_object x ≡ true → ⊥
-object_not x n b e h = both_ways (is_object x) (ap is_object e) h
+object_not x n b e h = (cc)
 
 pub mark_falls : (S : Start) (t : Heap) (a : ℕ) → Std S a → stays S t a ≡ false → Body S t.words a (rd S t.words a) → (u : Heap) → u.words ≡ t.words
     → ((c : ℕ) → marked t c ≡ true → marked u c ≡ true) → ((c : ℕ) → grey u c ≡ true → (grey t c ≡ true) ⊎ (c ≡ a)) → pot S u ≤ pot S t
@@ -104,7 +104,7 @@ not_grey S ok Todo t inv a o gone b h =
     go (subst (λ (x : ℕ). Final S t x a) e p.final)
   where
     go : Final S t a a → ⊥
-    go (stay e k) = both_ways (stays S t a) gone k
+    go (stay e k) = (cc)
     go (move g) = unmoved S t.words a a a b g refl
 
 module _ (S : Start) (ok : Sound S) (Todo : ℕ → Type 0) (t : Heap) (inv : Inv S Todo t) (a : ℕ) (oa : Obj S a) (gone : stays S t a ≡ false)
@@ -164,5 +164,5 @@ ungrey_falls S ok Todo t inv p h l = count_less (busy S t) (busy S (ungreyed t p
         go (subst (λ (c : ℕ). Final S t c p) e pl.final)
       where
         go : Final S t p p → ⊥
-        go (stay e k) = both_ways (stays S t p) x.goes k
+        go (stay e k) = (cc)
         go (move g) = object_not (rd S t.words p) (size0 S p) p g x.thing

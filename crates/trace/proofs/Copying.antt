@@ -70,7 +70,7 @@ module _ (S : Start) (ok : Sound S) (Todo : ℕ → Type 0) (t : Heap) (inv : In
   -- a cell is an old one, or the new one
   moved_back : (c d : ℕ) → Std S c → Moved S k c d → ((c ≡ a) × (d ≡ b)) ⊎ ((c ≢ a) × Moved S t.words c d)
   moved_back c d s g = elim (cases_eq c a) [
-    | inl e ↦ inl (e, same_address (rd S k a) (size0 S c) (size0 S a) d b (rw (← e) g) cp.left)
+    | inl e ↦ inl (e, (cc))
     | inr n ↦ inr (n, sym (frame c c s (same refl) n) ∙ g)
   ]
 
@@ -121,7 +121,7 @@ module _ (S : Start) (ok : Sound S) (Todo : ℕ → Type 0) (t : Heap) (inv : In
       ]
 
       go : Final S with_copy c p → ((grey with_copy p ≡ true) ⊎ Todo p) ⊎ Clean S with_copy c (rd S k p)
-      go (stay e h) = old (λ (x : c ≡ a). both_ways (stays S t a) gone (rw (← x) h)) (stay e h)
+      go (stay e h) = old (λ (x : c ≡ a). (cc)) (stay e h)
       go (move g) = elim (moved_back c p s.0 g) [
         | inl x ↦ inl (inl (rw x.1 lit))
         | inr x ↦ old x.0 (move x.1)
@@ -161,5 +161,5 @@ module _ (S : Start) (ok : Sound S) (Todo : ℕ → Type 0) (t : Heap) (inv : In
 
   -- what was settled reads as it did
   pub copy_keeps : Keeps S t with_copy
-  copy_keeps c p s (stay e h) = frame c p s (same e) (λ (x : c ≡ a). both_ways (stays S t a) gone (rw (← x) h))
+  copy_keeps c p s (stay e h) = frame c p s (same e) (λ (x : c ≡ a). (cc))
   copy_keeps c p s (move g) = frame c p s (copy g) (unmoved S t.words a c p body g)

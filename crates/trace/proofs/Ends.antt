@@ -16,7 +16,7 @@ use Rattle.trace.proofs.Sweeps.{Chain, stop, link, Base, first, next, base_inv, 
 
 -- the two ways to say what a base is
 pub base_of : (S : Start) (m : List ℕ) (e k a q : ℕ) → is_base S.meaning m e k a q ≡ true → Base S m e a q
-base_of S m e zero a q h = absurd (both_ways false refl h)
+base_of S m e zero a q h = absurd (cc)
 base_of S m e (suc k) a q h =
     let c = base_cases (ltb a e) (eqb a q) (is_base S.meaning m e k (a + span S.meaning (rd S m a)) q) h in
     elim c.1 [
@@ -70,7 +70,7 @@ module _ (S : Start) (ok : Sound S) (laws : Lawful S.meaning) (Todo : ℕ → Ty
                 row = piece f.front (padding_piece (rd S t.words f.front) (s * 256 + 256 - f.front) y) (omega arith) (rw fin ends);
                 bases = λ c d h g z l. absurd (none_past c d h g z l);
                 owner = λ q b o. absurd (elim (base_inv S t.words e f.front q b).1 [
-                  | inl w ↦ both_ways (is_object (rd S t.words f.front)) (ap is_object y) (rw (← w) o)
+                  | inl w ↦ (cc)
                   | inr w ↦ omega (arith, (base_inv S t.words e (f.front + span S.meaning (rd S t.words f.front)) q w).0)
                 ]);
               })

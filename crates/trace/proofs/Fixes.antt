@@ -52,7 +52,7 @@ sought_no S t a h =
     go z false false false k f h = refl
     go z false false true true f h = refl
     go true false false true false f h = absurd (both_ways false refl (f refl))
-    go false false false true false f h = absurd (both_ways false refl h)
+    go false false false true false f h = absurd (cc)
 
 module _ (S : Start) (ok : Sound S) (t : Heap) (long : length t.words ≡ length S.space.words) (few : length t.words ≤ 65536) where
   -- an object that does not stay is sought
@@ -166,7 +166,7 @@ module _ (S : Start) (ok : Sound S) (laws : Lawful S.meaning) (Todo : ℕ → Ty
 
       blank' : (w : ℕ) → owner u (w / 256) ≡ None → get_or (copy_words_to b) w 0 ≡ 0
       blank' w e =
-          let n : w / 256 ≢ b / 256 = λ z. pool_not_free p (owner u (b / 256)) onto.own_same (rw (← z) e) in
+          let n : w / 256 ≢ b / 256 = λ z. (cc) in
           let f : owner t (w / 256) ≡ None = sym (onto.own_other (w / 256) n) ∙ e in
           cp.words w (word_apart w a (size0 S a) (λ z. cell_used S ok Todo t inv a a sa (same refl) (rw (← z) f)) (ok.seg a sa))
           (word_apart w b (size0 S a) n fit) ∙ inv.blank w f
@@ -211,7 +211,7 @@ module _ (S : Start) (ok : Sound S) (laws : Lawful S.meaning) (Todo : ℕ → Ty
         let o = (inv.ready.owned p h).0 in
         seg_apart f (s * 256 + 256 - f) at (rest at)
         (λ z. (let x : at / 256 ≡ s = omega arith in
-        let pq : p ≡ q = pool_same p q (owner t s) (rw (← x) o) ow in
+        let pq : p ≡ q = (cc) in
         shut (rw (← pq) h) (rw (← pq) x)))
         (omega arith) (omega arith)))
 
@@ -219,7 +219,7 @@ module _ (S : Start) (ok : Sound S) (laws : Lawful S.meaning) (Todo : ℕ → Ty
     pad_blank w e =
         effect.words w (λ k. (let h : 1 ≤ at % 256 = omega arith in
         let o = (inv.ready.owned p h).0 in
-        word_apart w at (rest at) (λ z. pool_not_free p (owner t (at / 256)) o (rw (← z) e)) (omega arith)))
+        word_apart w at (rest at) (λ z. (cc)) (omega arith)))
         ∙ inv.blank w e
 
     pub pad_inv : Inv S Todo rest_padded
@@ -363,7 +363,7 @@ module _ (S : Start) (ok : Sound S) (laws : Lawful S.meaning) (Todo : ℕ → Ty
     where
       go : stays S t r ≡ false → Held S t.words r → Fixed S Todo t r (fix_answer S.meaning S.plan t r) (fixed S.meaning S.plan t r)
       go h (here b) = fix_unmoved t inv r s h b
-      go h (still w f) = absurd (object_not_padding (thing0 S r) (layout0 S r) (size0 S r) (slots0 S r) s.1 w)
+      go h (still w f) = absurd (cc)
       go h (away b g k) = fix_gone t inv r b s h g
 
   pub fix_ok : (t : Heap) → Inv S Todo t → (r v : ℕ) → Names S t.words r v → Fixed S Todo t r (fix_answer S.meaning S.plan t v) (fixed S.meaning S.plan t v)

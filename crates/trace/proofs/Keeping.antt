@@ -19,7 +19,7 @@ module _ (S : Start) (ok : Sound S) (Todo : ℕ → Type 0) (t : Heap) (inv : In
   left_by a s h = go (eqb a 0) (not (condemns S.plan a) || marked t a) (ne_eqb a 0 (λ z. omega (arith, ok.low a s))) h
     where
       go : (x y : Bool) → x ≡ false → (x || y) ≡ true → y ≡ true
-      go true y e h = absurd (both_ways true e refl)
+      go true y e h = absurd (cc)
       go false y e h = h
 
   stays_left : (a : ℕ) → (not (condemns S.plan a) || marked t a) ≡ true → stays S t a ≡ true
@@ -36,7 +36,7 @@ module _ (S : Start) (ok : Sound S) (Todo : ℕ → Type 0) (t : Heap) (inv : In
       go : Held S t.words a → placed_at a ≡ Some p
       go (here b) = ap (place_by (not (condemns S.plan a) || marked t a) a) b.shape ∙ cond-true (not (condemns S.plan a) || marked t a) (Some a) None (left_by a s.0 h) ∙ ap Some (sym e)
       go (away b g k) = absurd (both_ways (stays S t a) (inv.copied a b s.0 g).left h)
-      go (still w f) = absurd (object_not_padding (thing0 S a) (layout0 S a) (size0 S a) (slots0 S a) s.1 w)
+      go (still w f) = absurd (cc)
 
   pub is_fate : (a p : ℕ) → Obj S a → placed_at a ≡ Some p → Final S t a p
   is_fate a p s e = go (inv.held a s.0)
@@ -45,7 +45,7 @@ module _ (S : Start) (ok : Sound S) (Todo : ℕ → Type 0) (t : Heap) (inv : In
       some_is q e = cc
 
       none_not : None ≡ Some p → ⊥
-      none_not e = let z : ◌≡◌ {A = ℕ} 0 1 = cc in omega arith
+      none_not e = cc
 
       go : Held S t.words a → Final S t a p
       go (here b) =
@@ -55,7 +55,7 @@ module _ (S : Start) (ok : Sound S) (Todo : ℕ → Type 0) (t : Heap) (inv : In
             | inr h ↦ absurd (none_not (sym (cond-false (not (condemns S.plan a) || marked t a) (Some a) None h) ∙ f))
           ]
       go (away b g k) = move (subst (Moved S t.words a) (some_is b (sym (ap (place_by (not (condemns S.plan a) || marked t a) a) g) ∙ e)) g)
-      go (still w f) = absurd (object_not_padding (thing0 S a) (layout0 S a) (size0 S a) (slots0 S a) s.1 w)
+      go (still w f) = absurd (cc)
 
   pub follows : (r q : ℕ) → Settled S t r q → Follows S.meaning S.plan t r q
   follows r q (empty e f) = inl (e, f)

@@ -16,15 +16,15 @@ seen_thing m ws x =
     (seen_is m ws (m.head ws) r.head r.range r.fits, reads_is m ws (m.head ws) r)
 
 is_forwarded : (f : Shape → ℕ → Slot) (h : Head) (k to : ℕ) → thing f h ≡ forwarded k to → h ≡ Forwarded k to
-is_forwarded f Nothing k to e = absurd (let z : ◌≡◌ {A = ℕ} 0 1 = cc in omega arith)
-is_forwarded f (Object s) k to e = absurd (let z : ◌≡◌ {A = ℕ} 0 1 = cc in omega arith)
+is_forwarded f Nothing k to e = cc
+is_forwarded f (Object s) k to e = cc
 is_forwarded f (Forwarded j b) k to e = let p : j ≡ k = cc in let q : b ≡ to = cc in rw (p, q) refl
-is_forwarded f (Padding j) k to e = absurd (let z : ◌≡◌ {A = ℕ} 0 1 = cc in omega arith)
+is_forwarded f (Padding j) k to e = cc
 
 is_padding : (f : Shape → ℕ → Slot) (h : Head) (k : ℕ) → thing f h ≡ padding k → h ≡ Padding k
-is_padding f Nothing k e = absurd (let z : ◌≡◌ {A = ℕ} 0 1 = cc in omega arith)
-is_padding f (Object s) k e = absurd (let z : ◌≡◌ {A = ℕ} 0 1 = cc in omega arith)
-is_padding f (Forwarded j b) k e = absurd (let z : ◌≡◌ {A = ℕ} 0 1 = cc in omega arith)
+is_padding f Nothing k e = cc
+is_padding f (Object s) k e = cc
+is_padding f (Forwarded j b) k e = cc
 is_padding f (Padding j) k e = let p : j ≡ k = cc in rw p refl
 
 module _ (m : Meaning) (laws : Lawful m) (ws : List ℕ) (a : ℕ) where

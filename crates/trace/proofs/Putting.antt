@@ -22,7 +22,7 @@ final_body S Todo t inv a p s f = go (inv.held a s.0) f
     go (here h) (stay e k) = rw e h
     go (here h) (move g) = absurd (unmoved S t.words a a p h g refl)
     go (away b g h) (stay e k) = absurd (both_ways (stays S t a) (inv.copied a b s.0 g).left k)
-    go (still w e) f = absurd (object_not_padding (thing0 S a) (layout0 S a) (size0 S a) (slots0 S a) s.1 w)
+    go (still w e) f = absurd (cc)
     go (away b g h) (move f) = rw (← same_address (rd S t.words a) (size0 S a) (size0 S a) b p g f) h
 
 pub inv_todo : (S : Start) (Todo Next : ℕ → Type 0) (t : Heap) → Inv S Todo t
@@ -125,7 +125,7 @@ cell_used S ok Todo t inv a p s (same q) e =
     let o = inv.owned a s in
     let f : owner t (a / 256) ≡ None = rw (← q) e in
     let z : ◌≡◌ {A = Owner} (Some o.pool) None = sym o.is ∙ f in
-    let y : ◌≡◌ {A = ℕ} 0 1 = cc in absurd (omega arith)
+    cc
 cell_used S ok Todo t inv a p s (copy g) e =
     let h = inv.copied a p s g in
     elim (inv.room p a p (unused h.low (omega (arith, h.high, ok.some a s)) e) s (copy g)) [ inl x ↦ absurd (omega arith) | inr x ↦ absurd (omega (arith, ok.some a s)) ]
@@ -214,8 +214,7 @@ module _ (S : Start) (ok : Sound S) (Todo : ℕ → Type 0) (t : Heap) (inv : In
 
   put_back : (c d : ℕ) → Std S c → Moved S k c d → Moved S t.words c d
   put_back c d s g = elim (cases_eq c p) [
-    | inl e ↦ absurd (object_not_forwarded (rd S k p) (layout_of (rd S t.words p)) (size0 S c) d (set (slots_of (rd S t.words p)) i x) pt.there
-        (rw (← e) g))
+    | inl e ↦ absurd (cc)
     | inr n ↦ sym (frame c c s (same refl) n) ∙ g
   ]
 

@@ -30,9 +30,9 @@ piece_kind M (padding k) h = inr refl
 
 piece_real : (x : Thing) → Piece x → x ≢ nothing
 piece_real nothing h e = h
-piece_real (object l ss) h e = let z : ◌≡◌ {A = ℕ} 0 1 = cc in omega arith
+piece_real (object l ss) h e = cc
 piece_real (forwarded k to) h e = h
-piece_real (padding k) h e = let z : ◌≡◌ {A = ℕ} 0 1 = cc in omega arith
+piece_real (padding k) h e = cc
 
 pub sorted : (M : Meaning) → Lawful M → (m : List ℕ) (a : ℕ) → Piece (thing_at M m a) → Sorted M (thing_at M m a)
 sorted M laws m a h = record { some = ((readings M laws).spans m a (piece_real (thing_at M m a) h)).0; kind = piece_kind M (thing_at M m a) h }
@@ -40,7 +40,7 @@ sorted M laws m a h = record { some = ((readings M laws).spans m a (piece_real (
 pub base_cases : (x y z : Bool) → (x && (y || z)) ≡ true → (x ≡ true) × ((y ≡ true) ⊎ (z ≡ true))
 base_cases true true z h = (refl, inl refl)
 base_cases true false z h = (refl, inr h)
-base_cases false y z h = absurd (both_ways false refl h)
+base_cases false y z h = absurd (cc)
 
 -- the first thing of a row is a base, and so are those that follow it
 module _ (M : Meaning) (m : List ℕ) (e k a : ℕ) (low : a < e) where
@@ -63,7 +63,7 @@ pub record Within (M : Meaning) (m : List ℕ) (a e q : ℕ) : Type 0 where
 
 module _ (M : Meaning) (laws : Lawful M) (m : List ℕ) (e : ℕ) where
   pub in_row : (k a q : ℕ) → Row M m e a → is_base M m e k a q ≡ true → Within M m a e q
-  in_row zero a q r h = absurd (both_ways false refl h)
+  in_row zero a q r h = absurd (cc)
   in_row (suc k) a q ends h =
       let c = base_cases (ltb e e) (eqb e q) (is_base M m e k (e + span M (thing_at M m e)) q) h in
       absurd (omega (arith, ltb-true e e c.0))
@@ -75,7 +75,7 @@ module _ (M : Meaning) (laws : Lawful M) (m : List ℕ) (e : ℕ) where
       ]
 
   pub row_apart : (k a p q : ℕ) → Row M m e a → is_base M m e k a p ≡ true → is_base M m e k a q ≡ true → (p ≡ q) ⊎ Apart p (span M (thing_at M m p)) q (span M (thing_at M m q))
-  row_apart zero a p q r h g = absurd (both_ways false refl h)
+  row_apart zero a p q r h g = absurd (cc)
   row_apart (suc k) a p q ends h g =
       let c = base_cases (ltb e e) (eqb e q) (is_base M m e k (e + span M (thing_at M m e)) q) g in
       absurd (omega (arith, ltb-true e e c.0))
@@ -96,7 +96,7 @@ module _ (M : Meaning) (laws : Lawful M) (m : List ℕ) (e : ℕ) where
       ]
 
 pub owner_is : (o : Owner) → is_owned o ≡ true → (p : ℕ) × (o ≡ Some p)
-owner_is None h = absurd (both_ways false refl h)
+owner_is None h = absurd (cc)
 owner_is (Some p) h = (p, refl)
 
 pub self_object : (x : Thing) (l : ℕ) (ss : List Slot) → x ≡ object l ss → x ≡ object (layout_of x) (slots_of x)
@@ -130,7 +130,7 @@ module _ (S : Start) (laws : Lawful S.meaning) (ar : SoundSpace S.meaning S.plan
 
   seat_low : (q : ℕ) → Std S q → 256 ≤ q
   seat_low q h = elim (cases_eq (q / 256) 0) [
-    | inl e ↦ absurd (pool_not_free (seat q h).pool (owner0 S (q / 256)) (seat q h).owner (ap (owner0 S) e ∙ ar.first))
+    | inl e ↦ absurd (cc)
     | inr n ↦ omega arith
   ]
 
@@ -164,7 +164,7 @@ module _ (S : Start) (laws : Lawful S.meaning) (ar : SoundSpace S.meaning S.plan
     ];
     seg = λ a s. (let h : a + size0 S a ≤ a / 256 * 256 + 256 = (seat a s).within.high in omega arith);
     inside = λ a s. (seat a s).below;
-    used = λ a s e. pool_not_free (seat a s).pool (owner0 S (a / 256)) (seat a s).owner e;
+    used = λ a s e. (cc);
     top = ar.whole.2;
   }
     where
@@ -207,7 +207,7 @@ module _ (S : Start) (laws : Lawful S.meaning) (ar : SoundSpace S.meaning S.plan
     no_move : (a d : ℕ) → Std S a → Moved S t.words a d → ⊥
     no_move a d s g = elim (sound.thing a s) [
       | inl e ↦ unmoved S t.words a a d (at a (s, e)) g refl
-      | inr e ↦ (let f : rd S t.words a ≡ padding (size0 S a) = rw fr.words e in let z : ◌≡◌ {A = ℕ} 0 1 = cc in absurd (omega arith))
+      | inr e ↦ (let f : rd S t.words a ≡ padding (size0 S a) = rw fr.words e in cc)
     ]
 
     cell : (a p : ℕ) → Std S a → Cell S t.words a p → p ≡ a
@@ -223,7 +223,7 @@ module _ (S : Start) (laws : Lawful S.meaning) (ar : SoundSpace S.meaning S.plan
     outside_cells w a s (unused x y e) =
         let k = seat a s in
         let hi : a + size0 S a ≤ a / 256 * 256 + 256 = k.within.high in
-        let n : w / 256 ≢ a / 256 = λ f. pool_not_free k.pool (owner0 S (a / 256)) k.owner (ap (owner0 S) (sym f) ∙ sym (own (w / 256)) ∙ e) in
+        let n : w / 256 ≢ a / 256 = λ f. (cc) in
         elim (dec_lt w a) [ yes l ↦ inl l | no l ↦ inr (let z : a / 256 < w / 256 = omega arith in omega arith) ]
 
     leaf_settled : (x : Slot) → Fits Null x x → Fits (Settled S t) x x
@@ -274,12 +274,12 @@ module _ (S : Start) (laws : Lawful S.meaning) (ar : SoundSpace S.meaning S.plan
       greys = λ p h. absurd (both_ways (grey t p) (fr.white p) h);
       bound = λ p h. rw fr.low (omega arith);
       fill = record {
-        fronts = λ s p e o. absurd (pool_not_free p (owner0 S s) (sym (own s) ∙ o) e);
+        fronts = λ s p e o. absurd (cc);
         aims = λ p h. absurd (no_aim p h);
         empty = λ s e. sym (own s) ∙ e;
         pools = λ s p e. (let o = ar.owned s p (sym (own s) ∙ e) in (o.0, rw fr.words o.1));
         low = own 0 ∙ ar.first;
-        plain = λ s p e o. absurd (pool_not_free p (owner0 S s) (sym (own s) ∙ o) e);
+        plain = λ s p e o. absurd (cc);
       };
       marked = λ p h. absurd (both_ways (marked t p) (fr.unmarked p) h);
       blank = λ w e. ap (λ (k : List ℕ). get_or k w 0) fr.words ∙ ar.blank w (sym (own (w / 256)) ∙ e);

@@ -8,7 +8,7 @@ use Rattle.trace.specs.Traces.{Heap}
 use Rattle.trace.proofs.Cells.{owner, target, Start, Room, unused, ahead, Ready}
 
 pub pool_not_free : (p : ℕ) (x : Owner) → x ≡ Some p → x ≡ None → ⊥
-pool_not_free p x e f = let z : ◌≡◌ {A = ℕ} 0 1 = cc in absurd (omega arith)
+pool_not_free p x e f = cc
 
 pub pool_same : (p q : ℕ) (x : Owner) → x ≡ Some p → x ≡ Some q → p ≡ q
 pool_same p q x e f = cc
@@ -18,7 +18,7 @@ owner_cases None = inl refl
 owner_cases (Some p) = inr (p, refl)
 
 free_found : (k : ℕ) (g : Segments) (s r : ℕ) → free_among k g s ≡ Some r → (s ≤ r) × (r < s + k) × (owner_of g r ≡ None)
-free_found zero g s r e = absurd (let z : ◌≡◌ {A = ℕ} 0 1 = cc in omega arith)
+free_found zero g s r e = cc
 free_found (suc k) g s r e = go (λ z. free_found k g (s + 1) r z) (owner_of g s) refl
   where
     go : (free_among k g (s + 1) ≡ Some r → (s + 1 ≤ r) × (r < s + 1 + k) × (owner_of g r ≡ None)) → (o : Owner) → owner_of g s ≡ o → (s ≤ r) × (r < s + suc k) × (owner_of g r ≡ None)
@@ -85,7 +85,7 @@ module _ (S : Start) (t : Heap) (ready : Ready S t) (p b : ℕ) (spot : Spot t p
   -- after the copy
   module _ (u : Heap) (long : length u.words ≡ length t.words) (on : Onto t u p b n) where
     not_ours : (s : ℕ) → owner u s ≡ None → s ≢ b / 256
-    not_ours s e f = pool_not_free p (owner u (b / 256)) on.own_same (rw (← f) e)
+    not_ours s e f = (cc)
 
     -- a segment in use keeps its owner
     pub owner_onto : (s : ℕ) → owner t s ≢ None → owner u s ≡ owner t s

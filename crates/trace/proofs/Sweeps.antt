@@ -138,7 +138,7 @@ module _ (S : Start) (laws : Lawful S.meaning) where
       subst (λ (x : ℕ). Padded S laws m (pad g x m) g (a - g)) z (pad_effect S laws m g (a - g) small (λ _. omega arith))
 
   not_padding : (x : Thing) (n : ℕ) → x ≡ padding n → is_object x ≡ true → ⊥
-  not_padding x n e h = both_ways (is_object x) (ap is_object e) h
+  not_padding x n e h = (cc)
 
   -- before a gap of padding, a row
   gap_row : (k : List ℕ) (e g a : ℕ) → g ≤ a → a ≤ e → (g < a → rd S k g ≡ padding (a - g)) → Row S.meaning k e a → Row S.meaning k e g
@@ -190,9 +190,9 @@ module _ (S : Start) (laws : Lawful S.meaning) where
     outside = s.outside;
     row = s.row;
     words = s.words;
-    kept = λ q b h. elim (base_inv S m e a q b).1 [ inl f ↦ absurd (both_ways (bit ms a) u (rw (← f) h)) | inr c ↦ s.kept q c h ];
+    kept = λ q b h. elim (base_inv S m e a q b).1 [ inl f ↦ absurd (cc) | inr c ↦ s.kept q c h ];
     old = λ q b o. let x = s.old q b o in (x.0, next a q l x.1);
-    new = λ q b h. elim (base_inv S m e a q b).1 [ inl f ↦ absurd (both_ways (bit ms a) u (rw (← f) h)) | inr c ↦ s.new q c h ];
+    new = λ q b h. elim (base_inv S m e a q b).1 [ inl f ↦ absurd (cc) | inr c ↦ s.new q c h ];
   }
 
   -- what is marked ends it

@@ -38,11 +38,11 @@ module _ {S : Type 0} (f : S → ℕ → S) (onto : S → ℕ → ℕ) (limit : 
 by_ends : (m : Meaning) (ms : List ℕ) (at limit : ℕ) (h : Head) → at < limit → (h ≡ Nothing) ⊎ ((1 ≤ extent m h) × (at + extent m h ≤ limit))
     → (at < (stand_by ms at limit m h).end) × ((stand_by ms at limit m h).end ≤ limit)
 by_ends m ms at limit Nothing l x = (l, omega arith)
-by_ends m ms at limit (Object s) l (inl e) = absurd (let z : ◌≡◌ {A = ℕ} 0 1 = cc in omega arith)
+by_ends m ms at limit (Object s) l (inl e) = cc
 by_ends m ms at limit (Object s) l (inr r) = (omega (arith, r.0), r.1)
-by_ends m ms at limit (Forwarded k to) l (inl e) = absurd (let z : ◌≡◌ {A = ℕ} 0 1 = cc in omega arith)
+by_ends m ms at limit (Forwarded k to) l (inl e) = cc
 by_ends m ms at limit (Forwarded k to) l (inr r) = (omega (arith, r.0), r.1)
-by_ends m ms at limit (Padding k) l (inl e) = absurd (let z : ◌≡◌ {A = ℕ} 0 1 = cc in omega arith)
+by_ends m ms at limit (Padding k) l (inl e) = cc
 by_ends m ms at limit (Padding k) l (inr r) = (omega (arith, r.0), r.1)
 
 pub stood_ends : (m : Meaning) (ws ms : List ℕ) (at limit : ℕ) → at < limit
