@@ -10,7 +10,7 @@ use Rattle.trace.specs.declared.state.Trace.{Trace}
 use Rattle.trace.specs.Traces.{rest, Heap, heap}
 use Rattle.trace.specs.Collections.{targets_closed}
 use Rattle.trace.proofs.Cells.{owner, target, rd, owner0, Start, Final, stay, move, Room, unused, ahead, Front, Inv, Grows, Sound}
-use Rattle.trace.proofs.Facts.{clean_grows, place_grows, grows_refl, grows_trans, copied_on, owned_on}
+use Rattle.trace.proofs.Facts.{clean_grows, final_grows, place_grows, grows_refl, grows_trans, copied_on, owned_on}
 use Rattle.trace.proofs.Fixes.{rest_padded, pad_inv, pad_grows, pad_closes}
 
 -- the state without a target of pool p
@@ -119,12 +119,8 @@ module _ (S : Start) (ok : Sound S) (laws : Lawful S.meaning) (Todo : ℕ → Ty
         ];
         fronts = λ s q e o. elim (same_or_none q) [ inl z ↦ same_front s q z (inv.fill.fronts s q e o) | inr z ↦ gone_front s q z.0 z.1 (inv.fill.fronts s q e o) ];
       };
-      clean = λ a q s f. elim (inv.clean a q s (back a q f)) [ inl x ↦ inl x | inr h ↦ inr (clean_grows S t u reset_grows a (rd S t.words q) (rd S t.words q) refl h) ];
+      clean = λ a q s f. elim (inv.clean a q s (final_grows S u t (record { marks = λ c h. h; moves = λ c d r h. h }) a q s.0 f)) [ inl x ↦ inl x | inr h ↦ inr (clean_grows S t u reset_grows a (rd S t.words q) (rd S t.words q) refl h) ];
     }
-      where
-        back : (c q : ℕ) → Final S u c q → Final S t c q
-        back c q (stay e h) = stay e h
-        back c q (move g) = move g
 
   -- the state after k targets were closed, with those given up
   abbrev pub given_up : List ℕ → ℕ → List ℕ

@@ -12,7 +12,7 @@ use Rattle.arena.specs.Boards.{bit_of, bit, with_bit, without_bit}
 use Rattle.arena.proofs.Bits.{set_same}
 use Rattle.arena.proofs.BoardLaws.{laws_of}
 use Rattle.trace.specs.Traces.{condemns, Heap}
-use Rattle.trace.proofs.Cells.{slots_of, owner, marked, stays, rd, Start, Std, size0, layout0, slots0, fits_map, Moved, Cell, same, copy, Names, null, names, Final, stay, move, Settled, empty, settled, Body, Held, here, away, still, Clean, Copied, Owned, Place, Grows, Sound}
+use Rattle.trace.proofs.Cells.{slots_of, owner, marked, stays, rd, Start, Std, size0, layout0, slots0, fits_map, Moved, Cell, same, copy, Names, null, names, Final, stay, move, Settled, empty, settled, Body, Held, here, away, still, Clean, Copied, Owned, Place, Grows, Inv, Sound}
 
 pub object_not_forwarded : (x : Thing) (l n b : ℕ) (ss : List Slot) → x ≡ object l ss → x ≡ forwarded n b → ⊥
 object_not_forwarded x l n b ss e f = cc
@@ -143,6 +143,13 @@ module _ (S : Start) where
         let e : S.meaning.size (shape (layout0 S a) (length (slots_of x))) ≡ S.meaning.size (shape (layout0 S a) (length (slots0 S a))) = ap (λ (n : ℕ). S.meaning.size (shape (layout0 S a) n)) h.many in
         let o : size0 S a ≡ S.meaning.size (shape (layout0 S a) (length (slots0 S a))) = ap (span S.meaning) h.was in
         record { real = r.real; span = r.span ∙ e ∙ sym o }
+
+    -- two objects are not in one place
+    pub one_cell : (Todo : ℕ → Type 0) (t : Heap) → Inv S Todo t → (a c p q : ℕ) → Std S a → Std S c → Cell S t.words a p → Cell S t.words c q → q ≡ p → c ≡ a
+    one_cell Todo t inv a c p q s r f g e = elim (inv.apart c q a p r s g f) [
+      | inl y ↦ y.0
+      | inr y ↦ absurd (elim y [ inl z ↦ omega (arith, ok.some c r) | inr z ↦ omega (arith, ok.some a s) ])
+    ]
 
     pub body_size : (ws : List ℕ) (a : ℕ) (x : Thing) → Body S ws a x → S.meaning.size (shape (layout0 S a) (length (slots_of x))) ≡ size0 S a
     body_size ws a x h = sym (ap (span S.meaning) h.shape) ∙ (body_real ws a x h).span

@@ -2,6 +2,7 @@
 use Rattle.std.proofs.Common.{◌≡◌, ℕ, ◌+◌, ◌-◌, ◌*◌, ◌/◌, ◌%◌, ◌<◌, ◌≤◌, min, Bool, true, false, cond, not, ◌&&◌, ◌||◌, eqb, ltb, leb, ◌≢◌, List, length, get_or, set, Some, None, Option, sym, refl, ap, ◌∙◌, subst, inl, inr, le_trans, arith, length-set, eqb-true}
 use borrow.Author.Tests.{both_ways}
 use Rattle.std.proofs.lemmas.Bool.{cases_Bool, cond-true, cond-false, lt-ltb, le-ltb, le-leb, leb-true, and_from}
+use Rattle.std.proofs.lemmas.Bool.Decides.{nat_tests}
 use Rattle.std.proofs.lemmas.List.{get_or-set_same, get_or-set_other}
 use Rattle.format.specs.declared.things.Head.{Head}
 use Rattle.format.specs.declared.things.Head.TheVariants.{Object}
@@ -42,17 +43,7 @@ pub record Fixed (S : Start) (Todo : ℕ → Type 0) (t : Heap) (r q : ℕ) (u :
 
 -- what stays is not sought
 sought_no : (S : Start) (t : Heap) (a : ℕ) → stays S t a ≡ true → sought S.plan (length t.words) t.marks a ≡ false
-sought_no S t a h =
-    go (eqb a 0) (ltb a 256 || ltb 65535 a) (ltb (length t.words) (limit_of a)) (condemns S.plan a) (marked t a)
-    (λ e. (let z : a ≡ 0 = eqb-true a 0 e in ap (λ (x : Bool). x || ltb 65535 a) (lt-ltb a 256 (omega arith)))) h
-  where
-    go : (z x y c k : Bool) → (z ≡ true → x ≡ true) → (z || (not c || k)) ≡ true → cond x false (cond y false (cond c (not k) false)) ≡ false
-    go z true y c k f h = refl
-    go z false true c k f h = refl
-    go z false false false k f h = refl
-    go z false false true true f h = refl
-    go true false false true false f h = absurd (both_ways false refl (f refl))
-    go false false false true false f h = absurd (cc)
+sought_no S t a h = grind (arith, nat_tests)
 
 module _ (S : Start) (ok : Sound S) (t : Heap) (long : length t.words ≡ length S.space.words) (few : length t.words ≤ 65536) where
   -- an object that does not stay is sought

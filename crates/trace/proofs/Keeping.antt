@@ -1,7 +1,7 @@
 -- A collection keeps a sound arena, and all that it does not let go.
 use Rattle.std.proofs.Common.{◌≡◌, ℕ, Bool, true, false, cond, not, ◌||◌, eqb, Some, None, Option, sym, refl, ap, ◌∙◌, subst, inl, inr, arith, ne_eqb}
 use borrow.Author.Tests.{both_ways}
-use Rattle.std.proofs.lemmas.Bool.{cases_Bool, cond-true, cond-false}
+use Rattle.std.proofs.lemmas.Bool.{cases_Bool, cond-true, cond-false, or_right}
 use Rattle.format.specs.declared.things.Slot.{Slot}
 use Rattle.format.specs.declared.things.Slot.TheVariants.{Reference, Number}
 use Rattle.trace.specs.Traces.{condemns, Heap}
@@ -16,18 +16,10 @@ module _ (S : Start) (ok : Sound S) (Todo : ℕ → Type 0) (t : Heap) (inv : In
   placed_at a = place S.meaning S.plan t a
 
   left_by : (a : ℕ) → Std S a → stays S t a ≡ true → (not (condemns S.plan a) || marked t a) ≡ true
-  left_by a s h = go (eqb a 0) (not (condemns S.plan a) || marked t a) (ne_eqb a 0 (λ z. omega (arith, ok.low a s))) h
-    where
-      go : (x y : Bool) → x ≡ false → (x || y) ≡ true → y ≡ true
-      go true y e h = absurd (cc)
-      go false y e h = h
+  left_by a s h = rw (ne_eqb a 0 (λ z. omega (arith, ok.low a s))) at h
 
   stays_left : (a : ℕ) → (not (condemns S.plan a) || marked t a) ≡ true → stays S t a ≡ true
-  stays_left a h = go (eqb a 0) (not (condemns S.plan a) || marked t a) h
-    where
-      go : (x y : Bool) → y ≡ true → (x || y) ≡ true
-      go true y h = refl
-      go false y h = h
+  stays_left a h = or_right (eqb a 0) _ h
 
   pub fate_is : (a p : ℕ) → Obj S a → Final S t a p → placed_at a ≡ Some p
   fate_is a p s (move g) = ap (place_by (not (condemns S.plan a) || marked t a) a) g

@@ -11,7 +11,7 @@ use Rattle.arena.specs.Boards.{without_bit}
 use Rattle.arena.proofs.BoardLaws.{laws_of}
 use Rattle.trace.specs.Traces.{Heap, heap, ungreyed}
 use Rattle.trace.proofs.Cells.{Apart, slots_of, layout_of, owner, target, grey, stays, rd, owner0, Start, Std, thing0, size0, layout0, slots0, Obj, Fits, fits_map, Moved, Cell, same, copy, Names, Final, stay, move, Body, Held, here, away, still, Clean, Room, unused, ahead, Ready, Copied, Fill, Owned, Inv, Grows, Sound}
-use Rattle.trace.proofs.Facts.{object_not_forwarded, object_not_padding, same_address, Real, real_padding, board_drop, cell_map, names_map, body_map, clean_grows, place_grows, final_cell, cell_real, copied_on, owned_on}
+use Rattle.trace.proofs.Facts.{object_not_forwarded, object_not_padding, same_address, Real, real_padding, board_drop, cell_map, names_map, body_map, clean_grows, place_grows, final_grows, final_cell, cell_real, one_cell, copied_on, owned_on}
 use Rattle.trace.proofs.Marking.{unmoved, ready_same, room_same, owned_same, fill_same}
 
 -- where an object will be, it stands
@@ -123,8 +123,6 @@ word_apart w p n ne h = elim (dec_lt w p) [ yes l ↦ inl l | no l ↦ inr (let 
 pub cell_used : (S : Start) (ok : Sound S) (Todo : ℕ → Type 0) (t : Heap) → Inv S Todo t → (a p : ℕ) → Std S a → Cell S t.words a p → owner t (p / 256) ≢ None
 cell_used S ok Todo t inv a p s (same q) e =
     let o = inv.owned a s in
-    let f : owner t (a / 256) ≡ None = rw (← q) e in
-    let z : ◌≡◌ {A = Owner} (Some o.pool) None = sym o.is ∙ f in
     cc
 cell_used S ok Todo t inv a p s (copy g) e =
     let h = inv.copied a p s g in
@@ -168,8 +166,7 @@ module _ (S : Start) (Todo : ℕ → Type 0) (t : Heap) (inv : Inv S Todo t) (k 
   }
     where
       back : (a p : ℕ) → Std S a → Final S (put_words t k) a p → Final S t a p
-      back a p s (stay e h) = stay e h
-      back a p s (move g) = move (moves_back a p s g)
+      back a p s f = final_grows S (put_words t k) t (record { marks = λ c h. h; moves = moves_back }) a p s f
 
       go : (a : ℕ) → Std S a → Held S t.words a → Held S k a
       go a s (here h) = here (body_map S t.words k moves_on a (rd S t.words a) (rd S k a) (frame a a s (same refl)) h)
@@ -199,15 +196,10 @@ module _ (S : Start) (ok : Sound S) (Todo : ℕ → Type 0) (t : Heap) (inv : In
   ]
 
   whose : (c q : ℕ) → Std S c → Cell S t.words c q → q ≡ p → c ≡ a
-  whose c q s e h = elim (inv.apart c q a p s sa e (final_cell S t a p fin)) [
-    | inl y ↦ y.0
-    | inr y ↦ elim y [ inl z ↦ absurd (omega (arith, ok.some c s)) | inr z ↦ absurd (omega (arith, ok.some a sa)) ]
-  ]
+  whose c q s e h = one_cell S ok Todo t inv a c p q sa s (final_cell S t a p fin) e h
 
   not_p : (c d : ℕ) → Moved S t.words c d → c ≢ p
-  not_p c d g e =
-      object_not_forwarded (rd S t.words p) (layout0 S a) (size0 S c) d (slots_of (rd S t.words p)) body.shape
-      (rw (← e) g)
+  not_p c d g e = object_not_forwarded (rd S t.words p) (layout0 S a) (size0 S c) d (slots_of (rd S t.words p)) body.shape (rw (← e) g)
 
   put_moves : (c d : ℕ) → Std S c → Moved S t.words c d → Moved S k c d
   put_moves c d s g = frame c c s (same refl) (not_p c d g) ∙ g
@@ -296,8 +288,7 @@ module _ (S : Start) (ok : Sound S) (Todo : ℕ → Type 0) (t : Heap) (inv : In
   }
     where
       back : (c q : ℕ) → Std S c → Final S (put_words t k) c q → Final S t c q
-      back c q s (stay e h) = stay e h
-      back c q s (move g) = move (put_back c q s g)
+      back c q s f = final_grows S (put_words t k) t (record { marks = λ d h. h; moves = put_back }) c q s f
 
 -- the lowest grey object is no more grey, but to be scanned
 module _ (S : Start) (Todo : ℕ → Type 0) (t : Heap) (inv : Inv S Todo t) (p : ℕ) (lowest : (c : ℕ) → grey t c ≡ true → p ≤ c) where
@@ -318,7 +309,7 @@ module _ (S : Start) (Todo : ℕ → Type 0) (t : Heap) (inv : Inv S Todo t) (p 
     marked = inv.marked;
     blank = inv.blank;
     greys = λ q h. place_grows S t (ungreyed t p) ungrey_grows q (inv.greys q (board_drop t.greys p q h));
-    clean = λ a q s f. elim (inv.clean a q s (back a q f)) [
+    clean = λ a q s f. elim (inv.clean a q s (final_grows S (ungreyed t p) t (record { marks = λ c h. h; moves = λ c d r h. h }) a q s.0 f)) [
       | inl x ↦ elim x [
         | inl g ↦ elim (cases_eq q p) [ inl e ↦ inl (inr (inr e)) | inr n ↦ inl (inl ((laws_of t.greys).cleared_other p q n ∙ g)) ]
         | inr d ↦ inl (inr (inl d))
@@ -326,7 +317,3 @@ module _ (S : Start) (Todo : ℕ → Type 0) (t : Heap) (inv : Inv S Todo t) (p 
       | inr h ↦ inr (clean_grows S t (ungreyed t p) ungrey_grows a (rd S t.words q) (rd S t.words q) refl h)
     ];
   }
-    where
-      back : (c q : ℕ) → Final S (ungreyed t p) c q → Final S t c q
-      back c q (stay e h) = stay e h
-      back c q (move g) = move g

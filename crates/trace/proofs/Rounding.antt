@@ -1,8 +1,8 @@
 -- Rounds, registers, and nailed objects.
-use Rattle.std.proofs.Common.{◌≡◌, ℕ, zero, suc, ◌/◌, ◌%◌, ◌<◌, ◌≤◌, min, Bool, true, false, ◌≢◌, ◌⊎◌, List, length, get_or, set, Some, None, Option, sym, refl, ap, ◌∙◌, subst, inl, inr, arith, length-set}
+use Rattle.std.proofs.Common.{◌≡◌, ℕ, zero, suc, ◌*◌, ◌/◌, ◌%◌, ◌<◌, ◌≤◌, min, Bool, true, false, ◌≢◌, ◌⊎◌, List, length, get_or, set, Some, None, Option, sym, refl, ap, ◌∙◌, subst, inl, inr, arith, length-set}
 use native.Mathlib.Decide.{dec_lt}
 use borrow.Author.Tests.{both_ways}
-use Rattle.std.proofs.lemmas.Bool.{cases_eq}
+use Rattle.std.proofs.lemmas.Bool.{cases_eq, false_from_ne_true}
 use Rattle.std.proofs.lemmas.List.{get_or-set_same, get_or-set_other, get_or_past, set_past}
 use Rattle.format.specs.Laws.{Lawful}
 use Rattle.arena.specs.Boards.{bit_of, bit, with_bit, reach, lowest_bit, Lowest}
@@ -11,7 +11,7 @@ use Rattle.arena.proofs.Lowest.{zero_bit}
 use Rattle.trace.specs.Traces.{Heap, fixed, fix_answer, scanned, ungreyed, turned, next, rounded}
 use Rattle.trace.specs.Collections.{Rooted, rooted, roots_fixed, nailed_at}
 use Rattle.trace.proofs.Cells.{grey, rd, Start, Std, Obj, Names, Final, Settled, empty, Body, Clean, Inv, Grows, Sound}
-use Rattle.trace.proofs.Facts.{board_keeps, board_set, names_map, settled_grows, grows_refl, grows_trans, final_grows, final_cell}
+use Rattle.trace.proofs.Facts.{board_keeps, board_set, names_map, settled_grows, grows_refl, grows_trans, final_grows, final_cell, one_cell}
 use Rattle.trace.proofs.Marking.{mark_ok, mark_grows}
 use Rattle.trace.proofs.Putting.{inv_todo, ungrey_ok, ungrey_grows}
 use Rattle.trace.proofs.Counting.{count_below, count_none}
@@ -24,12 +24,8 @@ pub record Went (S : Start) (Todo : ℕ → Type 0) (t u : Heap) : Type 0 where
   pub grows : Grows S t u
 
 module _ (S : Start) (ok : Sound S) (laws : Lawful S.meaning) where
-  -- two objects are not in one place
   pub one_place : (Todo : ℕ → Type 0) (t : Heap) → Inv S Todo t → (a c p q : ℕ) → Std S a → Std S c → Final S t a p → Final S t c q → q ≡ p → c ≡ a
-  one_place Todo t inv a c p q s r f g e = elim (inv.apart c q a p r s (final_cell S t c q g) (final_cell S t a p f)) [
-    | inl y ↦ y.0
-    | inr y ↦ elim y [ inl z ↦ absurd (omega (arith, ok.some c r)) | inr z ↦ absurd (omega (arith, ok.some a s)) ]
-  ]
+  one_place Todo t inv a c p q s r f g e = one_cell S ok Todo t inv a c p q s r (final_cell S t a p f) (final_cell S t c q g) e
 
   pub scan_place : (Todo : ℕ → Type 0) (t : Heap) (a p : ℕ) → Inv S (λ q. Todo q ⊎ (q ≡ p)) t → Obj S a → Final S t a p
       → Went S (λ q. Todo q × (q ≢ p)) t (scanned S.meaning S.plan t p)
@@ -62,18 +58,13 @@ module _ (S : Start) (ok : Sound S) (laws : Lawful S.meaning) where
         below = omega (arith, l.1, inv.ready.greys, inv.long);
       }
 
+  white_past : (t : Heap) (p : ℕ) → 32 * length t.greys ≤ p → grey t p ≡ false
+  white_past t p h = rw (get_or_past t.greys (p / 32) 0 (omega arith)) (zero_bit (p % 32))
+
   none_grey : (Todo : ℕ → Type 0) (t : Heap) → Inv S Todo t → lowest_bit t.greys t.state.low ≡ None → (p : ℕ) → grey t p ≡ false
-  none_grey Todo t inv e p = go (grey t p) refl
-    where
-      l : Lowest t.greys t.state.low None
-      l = subst (Lowest t.greys t.state.low) e ((laws_of t.greys).lowest t.state.low)
-
-      past : reach t.greys ≤ p → grey t p ≡ false
-      past h = ap (λ (w : ℕ). bit_of w (p % 32)) (get_or_past t.greys (p / 32) 0 (omega (arith, inv.ready.greys, inv.ready.few))) ∙ zero_bit (p % 32)
-
-      go : (x : Bool) → grey t p ≡ x → grey t p ≡ false
-      go false h = h
-      go true h = elim (dec_lt p (reach t.greys)) [ yes k ↦ l p (inv.bound p h) k | no k ↦ past (omega arith) ]
+  none_grey Todo t inv e p =
+      let l = subst (Lowest t.greys t.state.low) e ((laws_of t.greys).lowest t.state.low) in
+      false_from_ne_true (grey t p) (λ h. both_ways (grey t p) (elim (dec_lt p (reach t.greys)) [ yes k ↦ l p (inv.bound p h) k | no k ↦ white_past t p (omega (arith, inv.ready.greys, inv.ready.few)) ]) h)
 
   pub record Round (Todo : ℕ → Type 0) (t u : Heap) : Type 0 where
     pub went : Went S Todo t u
@@ -112,7 +103,7 @@ module _ (S : Start) (ok : Sound S) (laws : Lawful S.meaning) where
   rounds_done : (k : ℕ) (Todo : ℕ → Type 0) (t : Heap) → Inv S Todo t → pot S t ≤ k → (p : ℕ) → grey (rounded S.meaning S.plan k t) p ≡ false
   rounds_done zero Todo t inv h p = elim (dec_lt p (length S.space.words)) [
     | yes l ↦ busy_off S t p (count_none (busy S t) (length S.space.words) h p l)
-    | no l ↦ ap (λ (w : ℕ). bit_of w (p % 32)) (get_or_past t.greys (p / 32) 0 (omega (arith, inv.ready.greys, inv.long))) ∙ zero_bit (p % 32)
+    | no l ↦ white_past t p (omega (arith, inv.ready.greys, inv.long))
   ]
   rounds_done (suc k) Todo t inv h p = go (λ u i l. rounds_done k Todo u i l p) (lowest_bit t.greys t.state.low) refl
     where

@@ -2,7 +2,7 @@
 use Rattle.std.proofs.Common.{◌≡◌, ℕ, zero, suc, ◌+◌, ◌*◌, ◌/◌, ◌%◌, ◌<◌, ◌≤◌, Bool, true, false, ◌&&◌, ◌||◌, eqb, ltb, ◌≢◌, ◌⊎◌, List, length, get_or, sym, refl, ap, ◌∙◌, subst, inl, inr, arith, ltb-true, ne_eqb, eqb-true, Some, None}
 use native.Mathlib.Decide.{dec_lt}
 use borrow.Author.Tests.{both_ways}
-use Rattle.std.proofs.lemmas.Bool.{cases_Bool, cases_eq, and_parts, and_from, and_right, or_from, or_left, or_right, lt-ltb, eq-eqb}
+use Rattle.std.proofs.lemmas.Bool.{cases_Bool, cases_eq, and_parts, and_from, and_right, or_cases, or_from, false_from_ne_true, or_left, or_right, lt-ltb, eq-eqb}
 use Rattle.format.specs.declared.things.Slot.{Slot}
 use Rattle.format.specs.declared.things.Slot.TheVariants.{Reference, Number}
 use Rattle.format.specs.Meaning.{Meaning, Thing, nothing, object, forwarded, padding, thing_at, span}
@@ -38,9 +38,7 @@ pub sorted : (M : Meaning) → Lawful M → (m : List ℕ) (a : ℕ) → Piece (
 sorted M laws m a h = record { some = ((readings M laws).spans m a (piece_real (thing_at M m a) h)).0; kind = piece_kind M (thing_at M m a) h }
 
 pub base_cases : (x y z : Bool) → (x && (y || z)) ≡ true → (x ≡ true) × ((y ≡ true) ⊎ (z ≡ true))
-base_cases true true z h = (refl, inl refl)
-base_cases true false z h = (refl, inr h)
-base_cases false y z h = absurd (cc)
+base_cases x y z h = let a = and_parts x (y || z) h in (a.0, or_cases y z a.1)
 
 -- the first thing of a row is a base, and so are those that follow it
 module _ (M : Meaning) (m : List ℕ) (e k a : ℕ) (low : a < e) where
@@ -240,11 +238,7 @@ module _ (S : Start) (laws : Lawful S.meaning) (ar : SoundSpace S.meaning S.plan
     owned_at a s = let x = seat a s in record { pool = x.pool; is = own (a / 256) ∙ x.owner; was = x.owner; leaf = leaf_of a s }
 
     zone : (a : ℕ) → Std S a → stays S t a ≡ true → condemns S.plan a ≡ false
-    zone a s h = go (condemns S.plan a) refl
-      where
-        go : (x : Bool) → condemns S.plan a ≡ x → condemns S.plan a ≡ false
-        go false k = k
-        go true k = absurd (both_ways (stays S t a) (not_staying S t a (omega (arith, sound.low a s)) k (fr.unmarked a)) h)
+    zone a s h = false_from_ne_true (condemns S.plan a) (λ k. both_ways (stays S t a) (not_staying S t a (omega (arith, sound.low a s)) k (fr.unmarked a)) h)
 
     clean_at : (a p : ℕ) → Obj S a → Final S t a p → ((grey t p ≡ true) ⊎ Outside p) ⊎ Clean S t a (rd S t.words p)
     clean_at a p s (move g) = absurd (no_move a p s.0 g)

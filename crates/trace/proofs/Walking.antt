@@ -1,7 +1,7 @@
 -- The walks over rows: nailing, and scanning what is not condemned.
 use Rattle.std.proofs.Common.{◌≡◌, ℕ, zero, suc, ◌+◌, ◌-◌, ◌*◌, ◌/◌, ◌<◌, ◌≤◌, Bool, true, false, cond, not, ◌&&◌, ◌||◌, eqb, ltb, leb, ◌≢◌, ◌⊎◌, List, length, get_or, Some, None, Option, sym, refl, ap, ◌∙◌, subst, inl, inr, arith, ltb-true, eqb-true}
 use borrow.Author.Tests.{both_ways}
-use Rattle.std.proofs.lemmas.Bool.{cases_Bool, cond-true, cond-false, cond_both, lt-ltb, le-ltb, le-leb, cases_eq}
+use Rattle.std.proofs.lemmas.Bool.{cases_Bool, cond-true, cond-false, cond_both, and_parts, lt-ltb, le-ltb, le-leb, cases_eq}
 use Rattle.format.specs.declared.things.Head.{Head}
 use Rattle.format.specs.declared.things.Head.TheVariants.{Forwarded, Padding}
 use Rattle.format.specs.Meaning.{Meaning, shape, seen, object, padding, span}
@@ -243,12 +243,7 @@ module _ (S : Start) (ok : Sound S) (laws : Lawful S.meaning) where
     nail_is t w = ap (λ (k : ℕ). point t (w / 256 * 256 + 256) w k (w / 256 * 256)) (fuel (w / 256))
 
     nails_condemned : (len w : ℕ) → nails S.plan len w ≡ true → condemns S.plan w ≡ true
-    nails_condemned len w h = go (not (ltb w 256 || ltb 65535 w)) (leb (limit_of w) len) (condemns S.plan w) h
-      where
-        go : (x y z : Bool) → (x && (y && z)) ≡ true → z ≡ true
-        go true true z h = h
-        go true false z h = absurd (cc)
-        go false y z h = absurd (cc)
+    nails_condemned len w h = (and_parts (leb (limit_of w) len) _ (and_parts (not (ltb w 256 || ltb 65535 w)) _ h).1).1
 
     nail_one_ok : (t : Heap) → Inv S Todo t → (w : ℕ) → Nails Todo t (nail t w)
     nail_one_ok t inv w = elim (cases_Bool (nails S.plan (length t.words) w)) [
@@ -277,17 +272,13 @@ module _ (S : Start) (ok : Sound S) (laws : Lawful S.meaning) where
         let z : w / 256 ≡ q / 256 = omega arith in
         let cw : condemns S.plan w ≡ true = ap (λ (s : ℕ). get_or S.plan.condemned s false) z ∙ c in
         let e : nails S.plan (length t.words) w ≡ true =
-        yes_nails (ltb w 256) (ltb 65535 w) (leb (limit_of w) (length t.words)) (condemns S.plan w) (le-ltb w 256 (omega arith)) (le-ltb 65535 w (omega (arith, inv.ready.few, inv.long)))
-        (le-leb (limit_of w) (length t.words) (omega (arith, inv.long))) cw in
+        rw (le-ltb w 256 (omega arith), le-ltb 65535 w (omega (arith, inv.ready.few, inv.long)), le-leb (limit_of w) (length t.words) (omega (arith, inv.long)), cw) refl in
         let u = used (q / 256) c in
         let r = rows (q / 256) u.0 u.1 in
         let p : point t (w / 256 * 256 + 256) w 256 (w / 256 * 256) ≡ Some q =
         rw z (nail_row_finds (q / 256 * 256 + 256) w 256 Todo t (q / 256 * 256) q f r.0 (λ v h. (r.1 v h).0) inv b o bot hi) in
         rw (cond-true (nails S.plan (length t.words) w) _ t e ∙ ap (nailed_at t) (nail_is t w ∙ p))
         ((laws_of t.marks).set_same q (omega (arith, i, inv.ready.marks, inv.ready.few, inv.long, ok.some q o.0)))
-      where
-        yes_nails : (x y z c : Bool) → x ≡ false → y ≡ false → z ≡ true → c ≡ true → (not (x || y) && (z && c)) ≡ true
-        yes_nails x y z c e f g h = rw (e, f, g, h) refl
 
     pub nail_marks : (ws : List ℕ) (t : Heap) → Inv S Todo t → t.words ≡ m → (k i q : ℕ) → i < k → Obj S q → is_base M m (q / 256 * 256 + 256) 256 (q / 256 * 256) q ≡ true → condemns S.plan q ≡ true
         → q ≤ get_or ws i 0 → get_or ws i 0 < q + size0 S q → marked (all_nailed M S.plan ws t k) q ≡ true
