@@ -60,7 +60,7 @@ module _ (S : Start) (ok : Sound S) (laws : Lawful S.meaning) (Todo : ℕ → Ty
               let h : 1 ≤ target t p % 256 = rw (← tq) x.0 in
               let g : target t p / 256 ≡ s = rw (← tq) x.1 in
               let ff : target t p ≡ f.front = sym tq ∙ sym x.2 in
-              inr (rw (← ff) (rw (← g) (closing h))))
+              inr (rw (← ff, ← g) (closing h)))
           | inr x ↦ x.1
         ],
       );
@@ -140,7 +140,7 @@ module _ (S : Start) (ok : Sound S) (laws : Lawful S.meaning) (Todo : ℕ → Ty
   given_long ts (suc k) = length-set (given_up ts k) k 0 ∙ given_long ts k
 
   given_none : (ts : List ℕ) (k q : ℕ) → q < k → get_or (given_up ts k) q 0 ≡ 0
-  given_none ts zero q l = absurd (omega arith)
+  given_none ts zero q l = omega arith
   given_none ts (suc k) q l = elim (cases_eq q k) [
     | inl e ↦ elim (dec_lt k (length (given_up ts k))) [
       | yes h ↦ ap (λ (x : ℕ). get_or (set (given_up ts k) k 0) x 0) e ∙ get_or-set_same (given_up ts k) k 0 0 h

@@ -97,12 +97,11 @@ module _ (S : Start) (ok : Sound S) (Todo : ℕ → Type 0) (t : Heap) (inv : In
     where
       new_left : (c p : ℕ) → c ≡ a → p ≡ b → Cell S t.words d q → Apart p (size0 S c) q (size0 S d)
       new_left c p x y f =
-          rw x (rw y
-          (apart_sym q (size0 S d) b (size0 S a) (from_new d q r f)))
+          rw (x, y) (apart_sym q (size0 S d) b (size0 S a) (from_new d q r f))
 
       new_right : (d q : ℕ) → d ≡ a → q ≡ b → Cell S t.words c p → Apart p (size0 S c) q (size0 S d)
       new_right d q x y e =
-          rw x (rw y (from_new c p s e))
+          rw (x, y) (from_new c p s e)
 
       go : ((c ≡ a) × (p ≡ b)) ⊎ Cell S t.words c p → ((d ≡ a) × (q ≡ b)) ⊎ Cell S t.words d q → ((c ≡ d) × (p ≡ q)) ⊎ Apart p (size0 S c) q (size0 S d)
       go (inl x) (inl y) = inl (x.0 ∙ sym y.0, x.1 ∙ sym y.1)
@@ -141,7 +140,7 @@ module _ (S : Start) (ok : Sound S) (Todo : ℕ → Type 0) (t : Heap) (inv : In
       | inr x ↦ (let h = inv.copied c d s x.1 in copied_on S t with_copy c d cp.long refl (keep (d / 256) (λ e. ok.used c s (sym h.home ∙ e))) h)
     ];
     room = λ w c p f s e. elim (cell_back c p s e) [
-      | inl x ↦ rw x.0 (rw x.1 (free w f).1)
+      | inl x ↦ rw (x.0, x.1) (free w f).1
       | inr x ↦ inv.room w c p (free w f).0 s x
     ];
     greys = λ p h. elim (board_set t.greys b p h) [
@@ -156,8 +155,7 @@ module _ (S : Start) (ok : Sound S) (Todo : ℕ → Type 0) (t : Heap) (inv : In
   }
     where
       new : (c d : ℕ) → c ≡ a → d ≡ b → Copied S with_copy c d
-      new c d x y = rw x (rw y
-          (record { low = low; high = rw cp.long high; safe = safe; left = gone; seg = seg; fresh = fresh; home = home; mover = mover }))
+      new c d x y = rw (x, y) (record { low = low; high = rw cp.long high; safe = safe; left = gone; seg = seg; fresh = fresh; home = home; mover = mover })
 
   -- what was settled reads as it did
   pub copy_keeps : Keeps S t with_copy

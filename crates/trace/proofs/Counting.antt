@@ -25,7 +25,7 @@ count_mono f g zero h = omega arith
 count_mono f g (suc n) h = let i = count_mono f g n h in let k = one_le (g n) (f n) (h n) in omega arith
 
 pub count_less : (f g : ℕ → Bool) (n a : ℕ) → ((w : ℕ) → g w ≡ true → f w ≡ true) → a < n → f a ≡ true → g a ≡ false → suc (count g n) ≤ count f n
-count_less f g zero a h l x y = absurd (omega arith)
+count_less f g zero a h l x y = omega arith
 count_less f g (suc n) a h l x y = elim (cases_eq a n) [
   | inl e ↦ (let fx : f n ≡ true = rw (← e) x in
       let gx : g n ≡ false = rw (← e) y in
@@ -40,7 +40,7 @@ count_but_one f g zero b h = (omega arith, λ l. omega arith)
 count_but_one f g (suc n) b h =
     let i = count_but_one f g n b h in
     elim (cases_eq n b) [
-      | inl e ↦ (let k = one_le (g n) true (λ z. refl) in let j = i.1 (omega arith) in (omega arith, λ l. absurd (omega arith)))
+      | inl e ↦ (let k = one_le (g n) true (λ z. refl) in let j = i.1 (omega arith) in (omega arith, λ l. omega arith))
       | inr ne ↦ (let k = one_le (g n) (f n) (h n ne) in (omega (arith, i.0), λ l. (let j = i.1 (omega arith) in omega arith)))
     ]
 

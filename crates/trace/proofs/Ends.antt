@@ -16,7 +16,7 @@ use Rattle.trace.proofs.Sweeps.{Chain, stop, link, Base, first, next, base_inv, 
 
 -- the two ways to say what a base is
 pub base_of : (S : Start) (m : List ℕ) (e k a q : ℕ) → is_base S.meaning m e k a q ≡ true → Base S m e a q
-base_of S m e zero a q h = absurd (cc)
+base_of S m e zero a q h = (cc)
 base_of S m e (suc k) a q h =
     let c = base_cases (ltb a e) (eqb a q) (is_base S.meaning m e k (a + span S.meaning (rd S m a)) q) h in
     elim c.1 [
@@ -100,7 +100,7 @@ module _ (S : Start) (ok : Sound S) (laws : Lawful S.meaning) (Todo : ℕ → Ty
             let far : (c2 d2 : ℕ) → Std S c2 → Moved S t.words c2 d2 → x < d2 → x + size0 S a ≤ d2
             = λ c2 d2 h m l. elim (inv.apart a x c2 d2 o.0 h (copy g) (copy m)) [
               | inl y ↦ absurd (let yy : x ≡ d2 = y.1 in omega arith)
-              | inr y ↦ elim y [ inl z ↦ z | inr z ↦ absurd (omega arith) ]
+              | inr y ↦ elim y [ inl z ↦ z | inr z ↦ omega arith ]
             ] in
             let same_one : (c2 : ℕ) → Std S c2 → Moved S t.words c2 x → c2 ≡ a
             = λ c2 h m. elim (inv.apart c2 x a x h o.0 (copy m) (copy g)) [
@@ -131,7 +131,7 @@ module _ (S : Start) (ok : Sound S) (laws : Lawful S.meaning) (Todo : ℕ → Ty
             }
 
     pub built : Built (s * 256)
-    built = build 256 (s * 256) (omega (arith, f.high)) (omega arith) f.low (λ c d h g y l. absurd (omega arith))
+    built = build 256 (s * 256) (omega (arith, f.high)) (omega arith) f.low (λ c d h g y l. omega arith)
 
   -- a segment that was in use: what stood there has kept its extent
   module _ (e a : ℕ) (r : Row S.meaning S.space.words e a) (h : (q : ℕ) → Base S S.space.words e a q → Std S q) where

@@ -159,9 +159,9 @@ module _ (S : Start) where
       where
         go : Held S m a → Cell S m a p → Real S.meaning (rd S m p) (size0 S a)
         go (here b) (same e) = rw e (body_real m a (rd S m a) b)
-        go (here b) (copy e) = absurd (cc)
+        go (here b) (copy e) = (cc)
         go (still w f) (same e) = rw e (real_padding S.meaning (rd S m a) (size0 S a) f)
-        go (still w f) (copy e) = absurd (cc)
+        go (still w f) (copy e) = (cc)
         go (away q g b) (same e) = rw e (real_forwarded S.meaning (rd S m a) (size0 S a) q g)
         go (away q g b) (copy e) = rw (← same_address (rd S m a) (size0 S a) (size0 S a) q p g e) (body_real m a (rd S m q) b)
 

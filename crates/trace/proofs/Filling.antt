@@ -78,7 +78,7 @@ module _ (S : Start) (ok : Sound S) (Todo : ℕ → Type 0) (t : Heap) (inv : In
     low = omega arith;
     high = omega arith;
     below = λ c d s g y. elim (back c d s g) [
-      | inl x ↦ rw x.0 (rw x.1 (omega arith))
+      | inl x ↦ rw (x.0, x.1) (omega arith)
       | inr x ↦ omega (arith, pre.below c d s x.1 y)
     ];
     cover = λ w x y. elim (dec_lt w b) [
@@ -137,12 +137,12 @@ module _ (S : Start) (ok : Sound S) (Todo : ℕ → Type 0) (t : Heap) (inv : In
           let g : target t p / 256 ≡ s = rw (← tq) x.1 in
           let ff : target t p ≡ f.front = sym tq ∙ sym x.2 in
           let c = closing h (λ y. ne (sym g ∙ y)) in
-          inr (not_here z, closed s f.front e ne f.low f.high (inr (rw (← ff) (rw (← g) c))))
+          inr (not_here z, closed s f.front e ne f.low f.high (inr (rw (← ff, ← g) c)))
 
   pub filled : Fill S u
   filled = record {
     fronts = λ s q e o. elim (cases_eq s (b / 256)) [
-      | inl z ↦ rw z (rw (← pool_same p q (owner u (b / 256)) onto.own_same (rw (← z) o)) here_front)
+      | inl z ↦ rw (z, ← pool_same p q (owner u (b / 256)) onto.own_same (rw (← z) o)) here_front
       | inr n ↦ other_front s q e n (inv.fill.fronts s q e (sym (onto.own_other s n) ∙ o))
     ];
     aims = λ q h. elim (cases_eq q p) [
@@ -150,7 +150,7 @@ module _ (S : Start) (ok : Sound S) (Todo : ℕ → Type 0) (t : Heap) (inv : In
       | inl e ↦ (let y : target u q ≡ b + size0 S a = ap (target u) e ∙ onto.aim in
           let h' : 1 ≤ (b + size0 S a) % 256 = rw (← y) h in
           let g : (b + size0 S a) / 256 ≡ b / 256 = omega arith in
-          rw y (rw g fresh))
+          rw (y, g) fresh)
     ];
     empty = λ s e. inv.fill.empty s (sym (onto.own_other s (λ z. (cc))) ∙ e);
     low = onto.own_other 0 (λ z. omega (arith, pl.low)) ∙ inv.fill.low;

@@ -318,8 +318,7 @@ module _ (S : Start) (ok : Sound S) (laws : Lawful S.meaning) (Todo : ℕ → Ty
     fix_owner =
         let o = inv.owned a sb in
         let pin = (inv.fill.pools (a / 256) o.pool o.is).0 in
-        rw o.is
-        (rw (cond-true (ltb o.pool 8) _ Stay (lt-ltb o.pool 8 pin)) (fix_class o.pool pin o.was o.leaf (class_of S.plan o.pool) refl))
+        rw (o.is, cond-true (ltb o.pool 8) _ Stay (lt-ltb o.pool 8 pin)) (fix_class o.pool pin o.was o.leaf (class_of S.plan o.pool) refl)
 
     abbrev found : Head
     found = Object (shape (layout0 S a) (length (slots_of (rd S t.words a))))
@@ -329,14 +328,12 @@ module _ (S : Start) (ok : Sound S) (laws : Lawful S.meaning) (Todo : ℕ → Ty
 
     pub fix_unmoved : FixedBy (fate_of S.meaning S.plan t a)
     fix_unmoved =
-        rw (cond-true (sought S.plan (length t.words) t.marks a) _ Stay (sought_yes S ok t inv.long inv.ready.few a sb gone))
-        (rw head_now
-        (rw (size_now t inv a oa gone body) fix_owner))
+        rw (cond-true (sought S.plan (length t.words) t.marks a) _ Stay (sought_yes S ok t inv.long inv.ready.few a sb gone), head_now, size_now t inv a oa gone body) fix_owner
 
   -- what stays
   fix_stays : (t : Heap) → Inv S Todo t → (r v : ℕ) → stays S t v ≡ true → Settled S t r v → Fixed S Todo t r (fix_answer S.meaning S.plan t v) (fixed S.meaning S.plan t v)
   fix_stays t inv r v h s =
-      rw (cond-false (sought S.plan (length t.words) t.marks v) _ Stay (sought_no S t v h))
+      rw (sought_no S t v h)
       (unchanged t inv r v s)
 
   -- what has gone
@@ -354,7 +351,7 @@ module _ (S : Start) (ok : Sound S) (laws : Lawful S.meaning) (Todo : ℕ → Ty
     where
       go : stays S t r ≡ false → Held S t.words r → Fixed S Todo t r (fix_answer S.meaning S.plan t r) (fixed S.meaning S.plan t r)
       go h (here b) = fix_unmoved t inv r s h b
-      go h (still w f) = absurd (cc)
+      go h (still w f) = (cc)
       go h (away b g k) = fix_gone t inv r b s h g
 
   pub fix_ok : (t : Heap) → Inv S Todo t → (r v : ℕ) → Names S t.words r v → Fixed S Todo t r (fix_answer S.meaning S.plan t v) (fixed S.meaning S.plan t v)

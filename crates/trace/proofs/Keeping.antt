@@ -28,7 +28,7 @@ module _ (S : Start) (ok : Sound S) (Todo : ℕ → Type 0) (t : Heap) (inv : In
       go : Held S t.words a → placed_at a ≡ Some p
       go (here b) = ap (place_by (not (condemns S.plan a) || marked t a) a) b.shape ∙ cond-true (not (condemns S.plan a) || marked t a) (Some a) None (left_by a s.0 h) ∙ ap Some (sym e)
       go (away b g k) = absurd (both_ways (stays S t a) (inv.copied a b s.0 g).left h)
-      go (still w f) = absurd (cc)
+      go (still w f) = (cc)
 
   pub is_fate : (a p : ℕ) → Obj S a → placed_at a ≡ Some p → Final S t a p
   is_fate a p s e = go (inv.held a s.0)
@@ -47,7 +47,7 @@ module _ (S : Start) (ok : Sound S) (Todo : ℕ → Type 0) (t : Heap) (inv : In
             | inr h ↦ absurd (none_not (sym (cond-false (not (condemns S.plan a) || marked t a) (Some a) None h) ∙ f))
           ]
       go (away b g k) = move (subst (Moved S t.words a) (some_is b (sym (ap (place_by (not (condemns S.plan a) || marked t a) a) g) ∙ e)) g)
-      go (still w f) = absurd (cc)
+      go (still w f) = (cc)
 
   pub follows : (r q : ℕ) → Settled S t r q → Follows S.meaning S.plan t r q
   follows r q (empty e f) = inl (e, f)

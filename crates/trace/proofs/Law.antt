@@ -144,7 +144,7 @@ module _ (m : Meaning) (laws : Lawful m) (h : Held) (pools : ℕ) (sa : SoundAre
       both_ways (is_base m ws0 (q / 256 * 256 + 256) 256 (q / 256 * 256) q) (d.1 (q / 256) (omega (arith, w.1, rooted_up.inv.long, sa.space.whole.1)) sc) k.base
     where
       ready : (c : Bool) (o : Owner) → c ≡ false → (p : ℕ) → o ≡ Some p → p < 8 → leafy S p ≡ false → (not c && refers y.classes o) ≡ true
-      ready c o e p f l n = rw e (rw f (pair (ltb p 8) (leafy S p) (lt-ltb p 8 l) n))
+      ready c o e p f l n = rw (e, f) (pair (ltb p 8) (leafy S p) (lt-ltb p 8 l) n)
         where
           pair : (x z : Bool) → x ≡ true → z ≡ false → (x && not z) ≡ true
           pair x z e f = rw (e, f) refl
@@ -318,8 +318,7 @@ module _ (m : Meaning) (laws : Lawful m) (h : Held) (pools : ℕ) (sa : SoundAre
 
   kept_before : Kept (before_sweep m y h) (after_sweep m y (before_sweep m y h))
   kept_before =
-      rw (traced_steps m y h.arena.ambiguous (begun m h))
-      (rw (swept_all m y v.marks (ground v.state.segments v.words)) (sound_by_v, kept_by_v))
+      rw (traced_steps m y h.arena.ambiguous (begun m h), swept_all m y v.marks (ground v.state.segments v.words)) (sound_by_v, kept_by_v)
 
   pub performed_keeps : KeptBy m y h (performed m y (held_aged h pools)).after
   performed_keeps = kept_before

@@ -59,8 +59,7 @@ module _ (S : Start) (Todo : ℕ → Type 0) (t : Heap) (inv : Inv S Todo t) (a 
       ]
 
       at : (q d : ℕ) → q ≡ a → d ≡ a → ((grey with_mark q ≡ true) ⊎ Todo q) ⊎ Clean S with_mark d (rd S t.words q)
-      at q d e g = rw e
-          (rw g now)
+      at q d e g = rw (e, g) now
 
       go : Final S with_mark c p → ((grey with_mark p ≡ true) ⊎ Todo p) ⊎ Clean S with_mark c (rd S t.words p)
       go (move e) = old (move e)

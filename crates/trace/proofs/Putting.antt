@@ -22,7 +22,7 @@ final_body S Todo t inv a p s f = go (inv.held a s.0) f
     go (here h) (stay e k) = rw e h
     go (here h) (move g) = absurd (unmoved S t.words a a p h g refl)
     go (away b g h) (stay e k) = absurd (both_ways (stays S t a) (inv.copied a b s.0 g).left k)
-    go (still w e) f = absurd (cc)
+    go (still w e) f = (cc)
     go (away b g h) (move f) = rw (← same_address (rd S t.words a) (size0 S a) (size0 S a) b p g f) h
 
 pub inv_todo : (S : Start) (Todo Next : ℕ → Type 0) (t : Heap) → Inv S Todo t
@@ -126,7 +126,7 @@ cell_used S ok Todo t inv a p s (same q) e =
     cc
 cell_used S ok Todo t inv a p s (copy g) e =
     let h = inv.copied a p s g in
-    elim (inv.room p a p (unused h.low (omega (arith, h.high, ok.some a s)) e) s (copy g)) [ inl x ↦ absurd (omega arith) | inr x ↦ absurd (omega (arith, ok.some a s)) ]
+    elim (inv.room p a p (unused h.low (omega (arith, h.high, ok.some a s)) e) s (copy g)) [ inl x ↦ omega arith | inr x ↦ absurd (omega (arith, ok.some a s)) ]
 
 pub cell_seg : (S : Start) (ok : Sound S) (Todo : ℕ → Type 0) (t : Heap) → Inv S Todo t → (a p : ℕ) → Std S a → Cell S t.words a p → p % 256 + size0 S a ≤ 256
 cell_seg S ok Todo t inv a p s (same q) = rw q (ok.seg a s)
@@ -206,7 +206,7 @@ module _ (S : Start) (ok : Sound S) (Todo : ℕ → Type 0) (t : Heap) (inv : In
 
   put_back : (c d : ℕ) → Std S c → Moved S k c d → Moved S t.words c d
   put_back c d s g = elim (cases_eq c p) [
-    | inl e ↦ absurd (cc)
+    | inl e ↦ (cc)
     | inr n ↦ sym (frame c c s (same refl) n) ∙ g
   ]
 
@@ -245,8 +245,7 @@ module _ (S : Start) (ok : Sound S) (Todo : ℕ → Type 0) (t : Heap) (inv : In
     where
       at : (j : ℕ) → Fits (Names S t.words) (get_or (slots0 S a) j (Number 0)) (get_or (slots_of (rd S k p)) j (Number 0))
       at j = elim (cases_eq j i) [
-        | inl e ↦ rw e
-            (rw (put_slots, get_or-set_same (slots_of (rd S t.words p)) i x (Number 0) inside) fits)
+        | inl e ↦ rw (e, put_slots, get_or-set_same (slots_of (rd S t.words p)) i x (Number 0) inside) fits
         | inr n ↦ rw (put_slots, get_or-set_other (slots_of (rd S t.words p)) i j x (Number 0) n) (body.names j)
       ]
 
@@ -260,7 +259,7 @@ module _ (S : Start) (ok : Sound S) (Todo : ℕ → Type 0) (t : Heap) (inv : In
     | inr n ↦ still w (frame c c s (same refl) n ∙ e)
   ]
   put_held c s (away d g h) = elim (cases_eq d p) [
-    | inl e ↦ away d (put_moves c d s g) (rw e (rw (whose c d s (copy g) e) put_body))
+    | inl e ↦ away d (put_moves c d s g) (rw (e, whose c d s (copy g) e) put_body)
     | inr n ↦ away d (put_moves c d s g) (body_map S t.words k put_moves c (rd S t.words d) (rd S k d) (frame c d s (copy g) n) h)
   ]
 

@@ -37,8 +37,7 @@ module _ (S : Start) (ok : Sound S) (laws : Lawful S.meaning) where
       record {
         grows = r.grows;
         inv = inv_todo S (λ q. Todo q ⊎ (q ≡ p)) (λ q. Todo q × (q ≢ p)) u r.inv (λ c q h g d. elim (cases_eq q p) [
-          | inl e ↦ inr (rw e
-              (rw (one_place (λ q. Todo q ⊎ (q ≡ p)) u r.inv a c p q s.0 h.0 f' g e) k))
+          | inl e ↦ inr (rw (e, one_place (λ q. Todo q ⊎ (q ≡ p)) u r.inv a c p q s.0 h.0 f' g e) k)
           | inr n ↦ inl (elim d [ inl y ↦ (y, n) | inr y ↦ absurd (n y) ])
         ]);
       }

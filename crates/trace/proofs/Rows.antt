@@ -61,7 +61,7 @@ pub record Within (M : Meaning) (m : List ℕ) (a e q : ℕ) : Type 0 where
 
 module _ (M : Meaning) (laws : Lawful M) (m : List ℕ) (e : ℕ) where
   pub in_row : (k a q : ℕ) → Row M m e a → is_base M m e k a q ≡ true → Within M m a e q
-  in_row zero a q r h = absurd (cc)
+  in_row zero a q r h = (cc)
   in_row (suc k) a q ends h =
       let c = base_cases (ltb e e) (eqb e q) (is_base M m e k (e + span M (thing_at M m e)) q) h in
       absurd (omega (arith, ltb-true e e c.0))
@@ -73,7 +73,7 @@ module _ (M : Meaning) (laws : Lawful M) (m : List ℕ) (e : ℕ) where
       ]
 
   pub row_apart : (k a p q : ℕ) → Row M m e a → is_base M m e k a p ≡ true → is_base M m e k a q ≡ true → (p ≡ q) ⊎ Apart p (span M (thing_at M m p)) q (span M (thing_at M m q))
-  row_apart zero a p q r h g = absurd (cc)
+  row_apart zero a p q r h g = (cc)
   row_apart (suc k) a p q ends h g =
       let c = base_cases (ltb e e) (eqb e q) (is_base M m e k (e + span M (thing_at M m e)) q) g in
       absurd (omega (arith, ltb-true e e c.0))
@@ -94,7 +94,7 @@ module _ (M : Meaning) (laws : Lawful M) (m : List ℕ) (e : ℕ) where
       ]
 
 pub owner_is : (o : Owner) → is_owned o ≡ true → (p : ℕ) × (o ≡ Some p)
-owner_is None h = absurd (cc)
+owner_is None h = (cc)
 owner_is (Some p) h = (p, refl)
 
 pub self_object : (x : Thing) (l : ℕ) (ss : List Slot) → x ≡ object l ss → x ≡ object (layout_of x) (slots_of x)
@@ -128,7 +128,7 @@ module _ (S : Start) (laws : Lawful S.meaning) (ar : SoundSpace S.meaning S.plan
 
   seat_low : (q : ℕ) → Std S q → 256 ≤ q
   seat_low q h = elim (cases_eq (q / 256) 0) [
-    | inl e ↦ absurd (cc)
+    | inl e ↦ (cc)
     | inr n ↦ omega arith
   ]
 
@@ -268,12 +268,12 @@ module _ (S : Start) (laws : Lawful S.meaning) (ar : SoundSpace S.meaning S.plan
       greys = λ p h. absurd (both_ways (grey t p) (fr.white p) h);
       bound = λ p h. rw fr.low (omega arith);
       fill = record {
-        fronts = λ s p e o. absurd (cc);
+        fronts = λ s p e o. (cc);
         aims = λ p h. absurd (no_aim p h);
         empty = λ s e. sym (own s) ∙ e;
         pools = λ s p e. (let o = ar.owned s p (sym (own s) ∙ e) in (o.0, rw fr.words o.1));
         low = own 0 ∙ ar.first;
-        plain = λ s p e o. absurd (cc);
+        plain = λ s p e o. (cc);
       };
       marked = λ p h. absurd (both_ways (marked t p) (fr.unmarked p) h);
       blank = λ w e. ap (λ (k : List ℕ). get_or k w 0) fr.words ∙ ar.blank w (sym (own (w / 256)) ∙ e);

@@ -95,9 +95,7 @@ module _ (S : Start) (ok : Sound S) (laws : Lawful S.meaning) (Todo : ℕ → Ty
 
       pt : Putting S u.words k p (size0 S a) i (Reference q)
       pt =
-          rw (← size_is)
-          (rw (← sh_now)
-          (putting S laws u.words p (layout0 S a) (slots_of (rd S u.words p)) body'.shape i (Reference q) inside' may))
+          rw (← size_is, ← sh_now) (putting S laws u.words p (layout0 S a) (slots_of (rd S u.words p)) body'.shape i (Reference q) inside' may)
 
       fits : Fits (Names S u.words) (get_or (slots0 S a) i (Number 0)) (Reference q)
       fits = rw was (settled_names u r q fx.settled)
@@ -123,8 +121,7 @@ module _ (S : Start) (ok : Sound S) (laws : Lawful S.meaning) (Todo : ℕ → Ty
         done = done_more (put_words u k) i
             (λ j h. rw (ap (λ (zs : List Slot). get_or zs j (Number 0)) ps ∙ get_or-set_other (slots_of (rd S u.words p)) i j (Reference q) (Number 0) (omega arith))
             (fits_map (settled_grows S u (put_words u k) pg) (get_or (slots0 S a) j (Number 0)) (slot_at S u.words p j) (done_keeps t u i f fx.grows fx.keeps d j h)))
-            (rw (ap (λ (zs : List Slot). get_or zs i (Number 0)) ps ∙ get_or-set_same (slots_of (rd S u.words p)) i (Reference q) (Number 0) inside')
-            (rw was (settled_grows S u (put_words u k) pg r q fx.settled)));
+            (rw (ap (λ (zs : List Slot). get_or zs i (Number 0)) ps ∙ get_or-set_same (slots_of (rd S u.words p)) i (Reference q) (Number 0) inside', was) (settled_grows S u (put_words u k) pg r q fx.settled));
       }
 
     one_slot : (z x : Slot) → get_or (slots0 S a) i (Number 0) ≡ z → slot_at S t.words p i ≡ x → Fits (Names S t.words) z x
@@ -137,9 +134,7 @@ module _ (S : Start) (ok : Sound S) (laws : Lawful S.meaning) (Todo : ℕ → Ty
 
     slot_now : S.meaning.slot sh (part p (size0 S a) t.words) i ≡ slot_at S t.words p i
     slot_now =
-        rw (← size_is)
-        (rw (← ap (shape (layout0 S a)) body.many)
-        (slot_here S.meaning laws t.words p (layout0 S a) (slots_of (rd S t.words p)) body.shape i (Number 0) (omega (arith, body.many))))
+        rw (← size_is, ← ap (shape (layout0 S a)) body.many) (slot_here S.meaning laws t.words p (layout0 S a) (slots_of (rd S t.words p)) body.shape i (Number 0) (omega (arith, body.many)))
 
     pub slot_ok : Scanning S Todo t a p (suc i) (slot_fixed S.meaning S.plan t p (size0 S a) sh i)
     slot_ok =
@@ -166,9 +161,7 @@ module _ (S : Start) (ok : Sound S) (laws : Lawful S.meaning) (Todo : ℕ → Ty
       ∙ ap (λ (n : ℕ). Object (shape (layout0 S a) n)) b.many in
       rw (cond-false (ltb 65535 p) t _ (le-ltb 65535 p (omega (arith, inv.ready.few)))
       ∙ cond-false (ltb (length t.words) (limit_of p)) t _ (le-ltb (length t.words) (limit_of p) (omega arith))
-      ∙ ap (by_object S.meaning S.plan t p) h)
-      (rw size_is
-      (slots_ok (length (slots0 S a)) t inv (omega arith) f))
+      ∙ ap (by_object S.meaning S.plan t p) h, size_is) (slots_ok (length (slots0 S a)) t inv (omega arith) f)
     where
       cell_inside : (t : Heap) → Inv S Todo t → Cell S t.words a p → p / 256 * 256 + 256 ≤ length t.words
       cell_inside t inv (same e) = rw e (omega (arith, ok.inside a sa, inv.long))

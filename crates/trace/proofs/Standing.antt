@@ -22,10 +22,10 @@ use Rattle.trace.proofs.Tidying.{Outcome, calm, tidy, wiped}
 use Rattle.trace.proofs.Ends.{base_of, of_base, Built, built, chain_now, base_now, base_then}
 
 pub object_of : (x : Thing) → is_object x ≡ true → x ≡ object (layout_of x) (slots_of x)
-object_of nothing h = absurd (cc)
+object_of nothing h = (cc)
 object_of (object l ss) h = refl
-object_of (forwarded n b) h = absurd (cc)
-object_of (padding n) h = absurd (cc)
+object_of (forwarded n b) h = (cc)
+object_of (padding n) h = (cc)
 
 pub of_object : (x : Thing) (l : ℕ) (ss : List Slot) → x ≡ object l ss → is_object x ≡ true
 of_object x l ss e = ap is_object e
@@ -90,7 +90,7 @@ module _ (S : Start) (ok : Sound S) (laws : Lawful S.meaning) (t : Heap) (inv : 
       go : Outcome S laws t.marks (get_or S.plan.condemned s false) s m k (owner t s) (owner_of g' s) → Row M k (s * 256 + 256) (s * 256)
       go (calm c e f wd) = row_after S laws m k (s * 256 + 256) (s * 256) f (s * 256) (omega arith) (before c (sym e ∙ o))
       go (tidy c e f) = f.row
-      go (wiped c e f wz) = absurd (cc)
+      go (wiped c e f wz) = (cc)
 
   std_next : (q s p : ℕ) → q / 256 ≡ s → owner_of g' s ≡ Some p → Base S k (s * 256 + 256) (s * 256) q → Std T q
   std_next q s p z o b =
@@ -207,7 +207,7 @@ module _ (S : Start) (ok : Sound S) (laws : Lawful S.meaning) (t : Heap) (inv : 
 
       go : (p : ℕ) → owner_of g' (q / 256) ≡ Some p → Base S k (q / 256 * 256 + 256) (q / 256 * 256) q → is_object (rd S k q) ≡ true
           → Outcome S laws t.marks (get_or S.plan.condemned (q / 256) false) (q / 256) m k (owner t (q / 256)) (owner_of g' (q / 256)) → Comes q
-      go p w b i (wiped c e f wz) = absurd (cc)
+      go p w b i (wiped c e f wz) = (cc)
       go p w b i (tidy c e f) =
           let x = f.old q b i in
           record { from = q; obj = inv.marked q x.0; final = stay refl (stays_by_mark S t q x.0) }
@@ -265,7 +265,7 @@ module _ (S : Start) (ok : Sound S) (laws : Lawful S.meaning) (t : Heap) (inv : 
             → Outcome S laws t.marks (get_or S.plan.condemned (q / 256) false) (q / 256) m k (owner t (q / 256)) (owner_of g' (q / 256)) → p ≡ q2
         calm_owner q2 o (calm c e f wd) = (cc)
         calm_owner q2 o (tidy c e f) = (cc)
-        calm_owner q2 o (wiped c e f wz) = absurd (cc)
+        calm_owner q2 o (wiped c e f wz) = (cc)
 
         by : Comes q → Stands q → AllFit Null (slots0 T q) (slots0 T q)
         by c s = go c.final
@@ -303,7 +303,7 @@ module _ (S : Start) (ok : Sound S) (laws : Lawful S.meaning) (t : Heap) (inv : 
         go : Outcome S laws t.marks (get_or S.plan.condemned s false) s m k (owner t s) (owner_of g' s) → owner t s ≡ Some p
         go (calm c f x wd) = sym f ∙ e
         go (tidy c f x) = sym f ∙ e
-        go (wiped c f x wz) = absurd (cc)
+        go (wiped c f x wz) = (cc)
 
     pub arena_next : length k ≡ length m → length g'.owners ≡ 256 → SoundSpace M S.plan.classes T.space
     arena_next long many = record {

@@ -190,9 +190,9 @@ module _ (S : Start) (laws : Lawful S.meaning) where
     outside = s.outside;
     row = s.row;
     words = s.words;
-    kept = λ q b h. elim (base_inv S m e a q b).1 [ inl f ↦ absurd (cc) | inr c ↦ s.kept q c h ];
+    kept = λ q b h. elim (base_inv S m e a q b).1 [ inl f ↦ (cc) | inr c ↦ s.kept q c h ];
     old = λ q b o. let x = s.old q b o in (x.0, next a q l x.1);
-    new = λ q b h. elim (base_inv S m e a q b).1 [ inl f ↦ absurd (cc) | inr c ↦ s.new q c h ];
+    new = λ q b h. elim (base_inv S m e a q b).1 [ inl f ↦ (cc) | inr c ↦ s.new q c h ];
   }
 
   -- what is marked ends it
@@ -299,7 +299,7 @@ module _ (S : Start) (laws : Lawful S.meaning) where
       → Walked ms e g a m (walk ms e k (sweep_row m g) a)
   sweep_ok ms e zero g a m fuel l small f stop ob = walk_end ms e g m l small f
   sweep_ok ms e (suc k) g a m fuel l small f stop ob =
-      rw (cond-false (ltb e e) _ (sweep_row m g) (le-ltb e e (omega arith))) (walk_end ms e g m l small f)
+      rw (le-ltb e e (omega arith)) (walk_end ms e g m l small f)
   sweep_ok ms e zero g a m fuel l small f (link b n h r) ob = absurd (omega (arith, n.some))
   sweep_ok ms e (suc k) g a m fuel l small f (link b n h r) ob =
       go (λ x. sweep_ok ms e k g (a + span S.meaning (rd S m a)) m (omega (arith, n.some)) (omega arith) small f r (λ q y. ob q (next a q low y)))

@@ -211,9 +211,9 @@ module _ (S : Start) (laws : Lawful S.meaning) (ms : List ℕ) where
 
     sweep_one_ok : (s : ℕ) → s < 256 → (x : Ground) → After m g y.condemned s x → After m g y.condemned (suc s) (segment_swept M y ms x s)
     sweep_one_ok s small x a = elim (cases_Bool (get_or y.condemned s false)) [
-      | inr ec ↦ rw (cond-false (get_or y.condemned s false) _ x ec)
+      | inr ec ↦ rw ec
           (step_past m g y.condemned s x x a refl refl (λ j ne q l n h. refl) (λ j ne w z. refl) (λ j ne. refl) (calm ec (a.coming s (omega arith)).1 (a.coming s (omega arith)).0 (a.coming s (omega arith)).2))
-      | inl ec ↦ rw (cond-true (get_or y.condemned s false) _ x ec) (condemned_ok s small x a ec)
+      | inl ec ↦ rw ec (condemned_ok s small x a ec)
     ]
 
     pub sweep_all_ok : (k : ℕ) → k ≤ 256 → After m g y.condemned k (segments_swept M y ms (ground g m) k)

@@ -47,8 +47,8 @@ module _ (S : Start) (ok : Sound S) (laws : Lawful S.meaning) where
   scan_padding Todo t inv a s e = go (inv.held a s)
     where
       go : Held S t.words a → scanned M S.plan t a ≡ t
-      go (here b) = absurd (cc)
-      go (away b g h) = absurd (cc)
+      go (here b) = (cc)
+      go (away b g h) = (cc)
       go (still w f) =
           let i = ok.inside a s in
           cond-false (ltb 65535 a) t _ (le-ltb 65535 a (omega (arith, inv.ready.few, inv.long)))
@@ -113,15 +113,15 @@ module _ (S : Start) (ok : Sound S) (laws : Lawful S.meaning) where
   Scanned k q = (j : ℕ) → j < k → to_scan j ≡ true → is_base M m (j * 256 + 256) 256 (j * 256) q ≡ false
 
   to_scan_is : (c : Bool) (o : Owner) → (not c && refers S.plan.classes o) ≡ true → ((p : ℕ) × (o ≡ Some p)) × (c ≡ false)
-  to_scan_is true o h = absurd (cc)
-  to_scan_is false None h = absurd (cc)
+  to_scan_is true o h = (cc)
+  to_scan_is false None h = (cc)
   to_scan_is false (Some p) h = ((p, refl), refl)
 
   scan_segment_ok : Rowed → (Todo : ℕ → Type 0) → ((q : ℕ) → Todo q → Obj S q) → (s : ℕ) (t : Heap) → Inv S Todo t
       → Went S (λ q. Todo q × (to_scan s ≡ true → is_base M m (s * 256 + 256) 256 (s * 256) q ≡ false)) t (segment_scanned M S.plan S.space.segments t s)
   scan_segment_ok rows Todo sub s t inv = elim (cases_Bool (to_scan s)) [
     | inr e ↦ subst (Went S (λ q. Todo q × (to_scan s ≡ true → is_base M m (s * 256 + 256) 256 (s * 256) q ≡ false)) t) (sym (cond-false (to_scan s) _ t e))
-        (record { grows = grows_refl S t; inv = inv_todo S Todo (λ q. Todo q × (to_scan s ≡ true → is_base M m (s * 256 + 256) 256 (s * 256) q ≡ false)) t inv (λ x q g f d. inl (d, λ z. absurd (cc))) })
+        (record { grows = grows_refl S t; inv = inv_todo S Todo (λ q. Todo q × (to_scan s ≡ true → is_base M m (s * 256 + 256) 256 (s * 256) q ≡ false)) t inv (λ x q g f d. inl (d, λ z. (cc))) })
     | inl e ↦ (let k = to_scan_is (get_or S.plan.condemned s false) (owner0 S s) e in
         let r = rows s k.0.0 k.0.1 in
         let w = scan_row_ok (s * 256 + 256) s 256 Todo sub (s * 256) t r.0 r.1 k.1 inv in
@@ -206,7 +206,7 @@ module _ (S : Start) (ok : Sound S) (laws : Lawful S.meaning) where
   -- the object into which w points is found
   nail_row_finds : (e w k : ℕ) (Todo : ℕ → Type 0) (t : Heap) (a q : ℕ) → t.words ≡ m → Row M m e a → ((q : ℕ) → is_base M m e k a q ≡ true → Std S q) → Inv S Todo t
       → is_base M m e k a q ≡ true → Obj S q → q ≤ w → w < q + size0 S q → point t e w k a ≡ Some q
-  nail_row_finds e w zero Todo t a q f r h inv b o bot hi = absurd (cc)
+  nail_row_finds e w zero Todo t a q f r h inv b o bot hi = (cc)
   nail_row_finds e w (suc k) Todo t a q f ends h inv b o bot hi =
       let c = base_cases (ltb e e) (eqb e q) (is_base M m e k (e + size0 S e) q) b in
       absurd (omega (arith, ltb-true e e c.0))
@@ -247,7 +247,7 @@ module _ (S : Start) (ok : Sound S) (laws : Lawful S.meaning) where
 
     nail_one_ok : (t : Heap) → Inv S Todo t → (w : ℕ) → Nails Todo t (nail t w)
     nail_one_ok t inv w = elim (cases_Bool (nails S.plan (length t.words) w)) [
-      | inr e ↦ rw (cond-false (nails S.plan (length t.words) w) _ t e) (nails_none Todo t inv)
+      | inr e ↦ rw e (nails_none Todo t inv)
       | inl e ↦ (let u = used (w / 256) (nails_condemned (length t.words) w e) in
           let r = rows (w / 256) u.0 u.1 in
           rw (cond-true (nails S.plan (length t.words) w) _ t e ∙ ap (nailed_at t) (nail_is t w))

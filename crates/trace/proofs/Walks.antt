@@ -17,7 +17,7 @@ module _ {S : Type 0} (f : S → ℕ → S) (onto : S → ℕ → ℕ) (limit : 
   enough : (k j : ℕ) (s : S) (at : ℕ) → limit - at ≤ k → limit - at ≤ j → walked f onto limit k s at ≡ walked f onto limit j s at
   enough zero zero s at p q = refl
   enough zero (suc j) s at p q = sym (cond-false _ _ _ (le-ltb at limit (omega arith)))
-  enough (suc k) zero s at p q = cond-false _ _ _ (le-ltb at limit (omega arith))
+  enough (suc k) zero s at p q = rw (le-ltb at limit (omega arith)) refl
   enough (suc k) (suc j) s at p q =
       elim (cases_lt at limit) [
         | inl l ↦

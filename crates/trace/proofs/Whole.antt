@@ -89,8 +89,7 @@ zones_have y g zero s l c m = absurd (omega arith)
 zones_have y g (suc k) s l c m = elim (cases_eq s k) [
   | inr n ↦ joined_left (zones_of y g k) (zone_if y g k) (zone_of (s * 256)) (zones_have y g k s (omega arith) c m)
   | inl e ↦ joined_right (zones_of y g k) (zone_if y g k) (zone_of (s * 256))
-      (rw (← e)
-      (rw (cond-true (get_or y.condemned s false && moves y.classes (owner_of g s)) (zone_bit (s * 256)) 0 (and_from _ _ c m)) (own_zone (s * 256))))
+      (rw (← e, cond-true (get_or y.condemned s false && moves y.classes (owner_of g s)) (zone_bit (s * 256)) 0 (and_from _ _ c m)) (own_zone (s * 256)))
 ]
 
 -- that of an address in a condemned AMC segment is one
