@@ -1,5 +1,5 @@
 -- The objects still to be dealt with grow no more.
-use Rattle.std.proofs.Common.{◌≡◌, ℕ, suc, ◌+◌, ◌<◌, ◌≤◌, Bool, true, false, not, ◌&&◌, ◌||◌, ◌≢◌, ◌⊎◌, List, length, get_or, sym, refl, ap, ◌∙◌, subst, inl, inr, arith}
+use Rattle.std.proofs.Common.{◌≡◌, ℕ, suc, ◌+◌, ◌<◌, ◌≤◌, Bool, true, false, not, ◌&&◌, ◌||◌, ◌≢◌, ◌⊎◌, List, length, get_or, sym, refl, ◌∙◌, subst, inl, inr, arith}
 use borrow.Author.Tests.{both_ways}
 use Rattle.std.proofs.lemmas.Bool.{cases_eq, and_parts, or_cases, or_parts, or_right, not-true, false_from_ne_true}
 use Rattle.format.specs.declared.things.Slot.{Slot}
@@ -9,10 +9,9 @@ use Rattle.arena.proofs.BoardLaws.{laws_of}
 use Rattle.trace.specs.declared.state.Trace.{Trace}
 use Rattle.trace.specs.Traces.{Heap, ungreyed}
 use Rattle.trace.specs.Keeping.{stands}
-use Rattle.trace.proofs.Cells.{slots_of, marked, grey, stays, rd, Start, Std, size0, slots0, Obj, Fits, same, Names, Final, stay, move, Body, Room, Place, Inv, Sound}
+use Rattle.trace.proofs.Cells.{slots_of, marked, grey, stays, rd, Start, Std, size0, slots0, Obj, Fits, same, Names, Final, stay, move, Body, Room, Inv, Sound}
 use Rattle.trace.proofs.Facts.{stays_grow, board_set, board_drop, final_cell, one_cell}
 use Rattle.trace.proofs.Counting.{count, count_mono, count_less, count_swap}
-use Rattle.trace.proofs.Marking.{unmoved}
 use Rattle.trace.proofs.Copying.{Copying, with_copy, copy_still, copy_far}
 use Rattle.trace.proofs.Putting.{put_words, final_body, Putting, put_still}
 

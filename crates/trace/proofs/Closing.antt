@@ -1,5 +1,5 @@
 -- The targets' rests padded.
-use Rattle.std.proofs.Common.{◌≡◌, ℕ, zero, suc, ◌+◌, ◌-◌, ◌*◌, ◌/◌, ◌%◌, ◌<◌, ◌≤◌, false, ◌⊎◌, List, length, get_or, set, sym, refl, ap, ◌∙◌, subst, inl, inr, arith, length-set, Some, None}
+use Rattle.std.proofs.Common.{◌≡◌, ℕ, zero, suc, ◌+◌, ◌-◌, ◌*◌, ◌/◌, ◌%◌, ◌<◌, ◌≤◌, ◌⊎◌, List, length, get_or, set, sym, refl, ap, ◌∙◌, inl, inr, arith, length-set}
 use native.Mathlib.Decide.{dec_lt}
 use Rattle.std.proofs.lemmas.Bool.{cases_eq}
 use Rattle.std.proofs.lemmas.List.{get_or-set_same, get_or-set_other, get_or_past}
@@ -9,7 +9,7 @@ use Rattle.arena.specs.Buffers.{padded_part}
 use Rattle.trace.specs.declared.state.Trace.{Trace}
 use Rattle.trace.specs.Traces.{rest, Heap, heap}
 use Rattle.trace.specs.Collections.{targets_closed}
-use Rattle.trace.proofs.Cells.{owner, target, rd, owner0, Start, Final, stay, move, Room, unused, ahead, Front, Inv, Grows, Sound}
+use Rattle.trace.proofs.Cells.{target, rd, Start, Room, unused, ahead, Front, Inv, Grows, Sound}
 use Rattle.trace.proofs.Facts.{clean_grows, final_grows, place_grows, grows_refl, grows_trans, copied_on, owned_on}
 use Rattle.trace.proofs.Fixes.{rest_padded, pad_inv, pad_grows, pad_closes}
 

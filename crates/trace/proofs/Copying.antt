@@ -1,7 +1,6 @@
 -- A copy keeps the invariant.
-use Rattle.std.proofs.Common.{◌≡◌, ℕ, ◌+◌, ◌/◌, ◌%◌, ◌<◌, ◌≤◌, true, false, ◌≢◌, ◌⊎◌, List, length, get_or, sym, refl, ◌∙◌, subst, inl, inr, arith, None}
+use Rattle.std.proofs.Common.{◌≡◌, ℕ, ◌+◌, ◌/◌, ◌%◌, ◌<◌, ◌≤◌, true, false, ◌≢◌, ◌⊎◌, List, length, get_or, sym, refl, ◌∙◌, inl, inr, arith, None}
 use native.Mathlib.Decide.{dec_lt}
-use borrow.Author.Tests.{both_ways}
 use Rattle.std.proofs.lemmas.Bool.{cases_eq}
 use Rattle.format.specs.Meaning.{forwarded}
 use Rattle.arena.specs.Boards.{bit, with_bit}
@@ -10,7 +9,7 @@ use Rattle.trace.specs.declared.state.Trace.{Trace}
 use Rattle.trace.specs.Traces.{condemns, Heap, heap}
 use Rattle.trace.specs.Collections.{moves}
 use Rattle.trace.proofs.Cells.{Apart, owner, grey, stays, rd, owner0, Start, Std, size0, Obj, Moved, Cell, same, copy, Final, stay, move, Body, Held, here, away, still, Clean, Room, Ready, Copied, Fill, Owned, Inv, Grows, Keeps, Sound}
-use Rattle.trace.proofs.Facts.{same_address, Real, board_keeps, board_set, body_map, clean_grows, place_grows, final_cell, cell_real, copied_on}
+use Rattle.trace.proofs.Facts.{Real, board_keeps, board_set, body_map, clean_grows, place_grows, final_cell, cell_real, copied_on}
 use Rattle.trace.proofs.Marking.{unmoved}
 
 -- what lies outside all the words of a stretch lies apart from it

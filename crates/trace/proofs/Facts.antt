@@ -1,5 +1,5 @@
 -- Small facts about things, cells and tests.
-use Rattle.std.proofs.Common.{◌≡◌, ℕ, ◌/◌, ◌%◌, ◌^◌, ◌≤◌, Bool, true, false, not, ◌||◌, eqb, ◌≢◌, ◌⊎◌, List, length, get_or, replicate, sym, refl, ap, ◌∙◌, subst, inl, inr, arith, eq-eqb}
+use Rattle.std.proofs.Common.{◌≡◌, ℕ, ◌/◌, ◌%◌, ◌^◌, ◌≤◌, true, false, not, eqb, ◌≢◌, ◌⊎◌, List, length, get_or, replicate, sym, refl, ap, ◌∙◌, inl, inr, arith}
 use lib.Bits.{bit_or}
 use borrow.Author.Tests.{both_ways, eqb-false}
 use Rattle.std.proofs.lemmas.Bool.{cases_lt, cases_eq, or_parts, or_right, not-false, ne_eqb}
@@ -8,7 +8,7 @@ use Rattle.std.proofs.lemmas.List.{get_or-set_same, set_past, length-replicate, 
 use Rattle.format.specs.declared.things.Slot.{Slot}
 use Rattle.format.specs.declared.things.Slot.TheVariants.{Number}
 use Rattle.format.specs.Meaning.{Meaning, shape, Thing, nothing, object, forwarded, padding, span}
-use Rattle.arena.specs.Boards.{bit_of, bit, with_bit, without_bit}
+use Rattle.arena.specs.Boards.{bit, with_bit, without_bit}
 use Rattle.arena.proofs.Bits.{set_same}
 use Rattle.arena.proofs.BoardLaws.{laws_of}
 use Rattle.trace.specs.Traces.{condemns, Heap}

@@ -1,5 +1,5 @@
 -- The segments that the trace took stay rows of copies.
-use Rattle.std.proofs.Common.{◌≡◌, ℕ, ◌+◌, ◌-◌, ◌*◌, ◌/◌, ◌%◌, ◌<◌, ◌≤◌, false, ◌≢◌, ◌⊎◌, List, sym, ap, ◌∙◌, subst, inl, inr, arith, Some, None}
+use Rattle.std.proofs.Common.{◌≡◌, ℕ, ◌+◌, ◌-◌, ◌*◌, ◌/◌, ◌%◌, ◌<◌, ◌≤◌, false, ◌≢◌, ◌⊎◌, List, sym, ap, ◌∙◌, inl, inr, arith, Some, None}
 use native.Mathlib.Decide.{dec_lt}
 use Rattle.std.proofs.lemmas.Bool.{cases_eq}
 use Rattle.format.specs.Meaning.{padding}
@@ -10,7 +10,7 @@ use Rattle.trace.proofs.Cells.{owner, target, stays, rd, owner0, leafy, Start, S
 use Rattle.trace.proofs.Facts.{real_padding}
 use Rattle.trace.proofs.Copying.{Copying, copy_grows, copy_back}
 use Rattle.trace.proofs.Putting.{seg_apart}
-use Rattle.trace.proofs.Spots.{pool_not_free, pool_same, Spot, onward, opening, Onto, Placed, placed}
+use Rattle.trace.proofs.Spots.{pool_same, Spot, onward, opening, Onto, Placed, placed}
 
 module _ (S : Start) (ok : Sound S) (Todo : ℕ → Type 0) (t : Heap) (inv : Inv S Todo t) (a : ℕ) (oa : Obj S a) (gone : stays S t a ≡ false)
     (body : Body S t.words a (rd S t.words a)) (b : ℕ) (k : List ℕ) (st : Trace) (p : ℕ)

@@ -1,6 +1,5 @@
 -- Fix keeps the invariant, and settles what it is given.
-use Rattle.std.proofs.Common.{◌≡◌, ℕ, ◌+◌, ◌-◌, ◌*◌, ◌/◌, ◌%◌, ◌<◌, ◌≤◌, min, Bool, true, false, cond, not, ◌&&◌, ◌||◌, eqb, ltb, leb, ◌≢◌, List, length, get_or, set, Some, None, Option, sym, refl, ap, ◌∙◌, subst, inl, inr, le_trans, arith, length-set, eqb-true}
-use borrow.Author.Tests.{both_ways}
+use Rattle.std.proofs.Common.{◌≡◌, ℕ, ◌+◌, ◌-◌, ◌*◌, ◌/◌, ◌%◌, ◌<◌, ◌≤◌, min, true, false, ◌&&◌, ltb, leb, ◌≢◌, List, length, get_or, set, Some, None, Option, sym, refl, ap, ◌∙◌, subst, inl, inr, le_trans, arith, length-set}
 use Rattle.std.proofs.lemmas.Bool.{cases_Bool, cond-true, cond-false, lt-ltb, le-ltb, le-leb, leb-true, and_from}
 use Rattle.std.proofs.lemmas.Bool.Decides.{nat_tests}
 use Rattle.std.proofs.lemmas.List.{get_or-set_same, get_or-set_other}
@@ -12,22 +11,22 @@ use Rattle.format.specs.Meaning.{shape, padding}
 use Rattle.format.specs.Laws.{Lawful}
 use Rattle.format.proofs.Memory.{readings}
 use Rattle.arena.specs.Boards.{bit, with_bit, reach}
-use Rattle.arena.specs.Segments.{Owner, lowest_free}
+use Rattle.arena.specs.Segments.{lowest_free}
 use Rattle.arena.proofs.BoardLaws.{laws_of}
 use Rattle.trace.specs.declared.state.Class.{Class}
 use Rattle.trace.specs.declared.state.Class.TheVariants.{Amc, Ams, Lo}
 use Rattle.trace.specs.declared.state.Trace.{Trace}
 use Rattle.trace.specs.declared.deciding.Fate.{Fate}
 use Rattle.trace.specs.declared.deciding.Fate.TheVariants.{Stay, Copy, Fresh}
-use Rattle.trace.specs.Traces.{limit_of, head_at, class_of, condemns, rest, by_free, by_room, by_class, by_owner, by_head, sought, taken_words, copied_words, copied_state, taken_state, Heap, heap, acted, answered, fate_of, fixed, fix_answer}
+use Rattle.trace.specs.Traces.{limit_of, head_at, class_of, rest, by_free, by_room, by_class, by_owner, by_head, sought, taken_words, copied_words, copied_state, taken_state, Heap, heap, acted, answered, fate_of, fixed, fix_answer}
 use Rattle.trace.specs.Collections.{is_amc, is_lo, moves}
-use Rattle.trace.proofs.Cells.{Apart, slots_of, owner, target, marked, stays, rd, owner0, leafy, Start, Std, thing0, size0, layout0, slots0, Obj, Fits, AllFit, Moved, Cell, same, copy, Names, null, names, stay, move, Settled, empty, settled, Body, Held, here, away, still, Null, Room, ahead, Owned, Inv, Grows, Keeps, Sound}
-use Rattle.trace.proofs.Facts.{object_not_padding, real_padding, stays_by_zone, stays_by_mark, leaves, stays_zero, board_keeps, board_set, body_map, grows_refl, grows_trans, final_grows, final_cell, cell_real, body_size, owned_on}
+use Rattle.trace.proofs.Cells.{Apart, slots_of, owner, target, stays, rd, owner0, leafy, Start, Std, size0, layout0, slots0, Obj, Fits, AllFit, Moved, Cell, same, copy, Names, null, names, stay, move, Settled, empty, settled, Body, Held, here, away, still, Null, Room, ahead, Owned, Inv, Grows, Keeps, Sound}
+use Rattle.trace.proofs.Facts.{real_padding, stays_by_zone, stays_by_mark, leaves, stays_zero, board_keeps, board_set, body_map, grows_refl, grows_trans, final_grows, final_cell, cell_real, body_size, owned_on}
 use Rattle.trace.proofs.Marking.{rebound, mark_ok, mark_grows}
 use Rattle.trace.proofs.Copying.{Copying, apart_all, copy_ok, copy_grows, copy_keeps}
 use Rattle.trace.proofs.Putting.{put_words, Pads, seg_apart, word_apart, cell_used, reframe, reframe_grows}
 use Rattle.trace.proofs.Effects.{Padded, pad_effect, copying}
-use Rattle.trace.proofs.Spots.{pool_not_free, pool_same, lowest_is_free, Spot, onward, opening, Onto, Placed, placed, owner_onto, ready_onto, room_onto}
+use Rattle.trace.proofs.Spots.{pool_not_free, lowest_is_free, Spot, onward, opening, Onto, Placed, placed, owner_onto, ready_onto, room_onto}
 use Rattle.trace.proofs.Filling.{fresh, filled}
 use Rattle.trace.proofs.Busy.{pot, mark_falls, copy_falls, reframe_falls}
 use Rattle.trace.proofs.Looking.{seen_forwarded, seen_object}

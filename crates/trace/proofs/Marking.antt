@@ -1,7 +1,6 @@
 -- A mark on an object that has not moved keeps the invariant.
 use Rattle.std.proofs.Common.{◌≡◌, ℕ, ◌<◌, ◌≤◌, true, ◌≢◌, ◌⊎◌, List, length, sym, refl, ◌∙◌, subst, inl, inr, arith, length-set}
 use Rattle.std.proofs.lemmas.Bool.{cases_eq}
-use Rattle.format.specs.Meaning.{forwarded}
 use Rattle.arena.specs.Boards.{bit, with_bit, reach}
 use Rattle.arena.proofs.BoardLaws.{laws_of}
 use Rattle.trace.specs.Traces.{with_low, Heap, heap}

@@ -1,5 +1,5 @@
 -- A new arena is sound.
-use Rattle.std.proofs.Common.{◌≡◌, ℕ, zero, suc, ◌+◌, ◌*◌, ◌/◌, ◌%◌, true, ◌&&◌, eqb, leb, List, length, replicate, sym, refl, ap, ◌∙◌, subst, inl, inr, None}
+use Rattle.std.proofs.Common.{◌≡◌, ℕ, zero, suc, ◌+◌, ◌*◌, ◌/◌, ◌%◌, true, ◌&&◌, eqb, leb, List, length, replicate, sym, refl, ap, ◌∙◌, inl, inr, None}
 use borrow.Author.Tests.{both_ways}
 use Rattle.std.proofs.lemmas.Bool.{cases_Bool, cond-true, cond-false, eqb-true, leb-true, and_parts}
 use Rattle.std.proofs.lemmas.List.{length-replicate}

@@ -5,12 +5,11 @@ use borrow.Author.Tests.{both_ways}
 use Rattle.std.proofs.lemmas.Bool.{cases_eq}
 use Rattle.format.specs.declared.things.Slot.{Slot}
 use Rattle.format.specs.declared.things.Slot.TheVariants.{Number}
-use Rattle.format.specs.Meaning.{object, forwarded, padding}
-use Rattle.arena.specs.Segments.{Owner}
+use Rattle.format.specs.Meaning.{object, padding}
 use Rattle.arena.specs.Boards.{without_bit}
 use Rattle.arena.proofs.BoardLaws.{laws_of}
 use Rattle.trace.specs.Traces.{Heap, heap, ungreyed}
-use Rattle.trace.proofs.Cells.{Apart, slots_of, layout_of, owner, target, grey, stays, rd, owner0, Start, Std, thing0, size0, layout0, slots0, Obj, Fits, fits_map, Moved, Cell, same, copy, Names, Final, stay, move, Body, Held, here, away, still, Clean, Room, unused, ahead, Ready, Copied, Fill, Owned, Inv, Grows, Sound}
+use Rattle.trace.proofs.Cells.{Apart, slots_of, layout_of, owner, target, grey, stays, rd, owner0, Start, Std, size0, layout0, slots0, Obj, Fits, fits_map, Moved, Cell, same, copy, Names, Final, stay, move, Body, Held, here, away, still, Clean, Room, unused, ahead, Ready, Copied, Fill, Owned, Inv, Grows, Sound}
 use Rattle.trace.proofs.Facts.{object_not_forwarded, object_not_padding, same_address, Real, real_padding, board_drop, cell_map, names_map, body_map, clean_grows, place_grows, final_grows, final_cell, cell_real, one_cell, copied_on, owned_on}
 use Rattle.trace.proofs.Marking.{unmoved, ready_same, room_same, owned_same, fill_same}
 

@@ -1,16 +1,16 @@
 -- Rounds, registers, and nailed objects.
-use Rattle.std.proofs.Common.{◌≡◌, ℕ, zero, suc, ◌*◌, ◌/◌, ◌%◌, ◌<◌, ◌≤◌, min, Bool, true, false, ◌≢◌, ◌⊎◌, List, length, get_or, set, Some, None, Option, sym, refl, ap, ◌∙◌, subst, inl, inr, arith, length-set}
+use Rattle.std.proofs.Common.{◌≡◌, ℕ, zero, suc, ◌*◌, ◌/◌, ◌%◌, ◌<◌, ◌≤◌, min, true, false, ◌≢◌, ◌⊎◌, List, length, get_or, set, Some, None, Option, refl, ap, ◌∙◌, subst, inl, inr, arith, length-set}
 use native.Mathlib.Decide.{dec_lt}
 use borrow.Author.Tests.{both_ways}
 use Rattle.std.proofs.lemmas.Bool.{cases_eq, false_from_ne_true}
 use Rattle.std.proofs.lemmas.List.{get_or-set_same, get_or-set_other, get_or_past, set_past}
 use Rattle.format.specs.Laws.{Lawful}
-use Rattle.arena.specs.Boards.{bit_of, bit, with_bit, reach, lowest_bit, Lowest}
+use Rattle.arena.specs.Boards.{bit, with_bit, reach, lowest_bit, Lowest}
 use Rattle.arena.proofs.BoardLaws.{laws_of}
 use Rattle.arena.proofs.Lowest.{zero_bit}
 use Rattle.trace.specs.Traces.{Heap, fixed, fix_answer, scanned, ungreyed, turned, next, rounded}
 use Rattle.trace.specs.Collections.{Rooted, rooted, roots_fixed, nailed_at}
-use Rattle.trace.proofs.Cells.{grey, rd, Start, Std, Obj, Names, Final, Settled, empty, Body, Clean, Inv, Grows, Sound}
+use Rattle.trace.proofs.Cells.{grey, rd, Start, Std, Obj, Names, Final, Settled, empty, Body, Inv, Grows, Sound}
 use Rattle.trace.proofs.Facts.{board_keeps, board_set, names_map, settled_grows, grows_refl, grows_trans, final_grows, final_cell, one_cell}
 use Rattle.trace.proofs.Marking.{mark_ok, mark_grows}
 use Rattle.trace.proofs.Putting.{inv_todo, ungrey_ok, ungrey_grows}

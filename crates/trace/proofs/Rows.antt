@@ -15,7 +15,7 @@ use Rattle.trace.specs.Keeping.{Sound as SoundSpace}
 use Rattle.trace.proofs.Cells.{Apart, slots_of, layout_of, owner, target, marked, grey, stays, rd, owner0, leafy, Start, Std, thing0, size0, layout0, slots0, Obj, Fits, AllFit, Moved, Cell, same, copy, Names, null, names, Final, stay, move, Settled, empty, Body, Held, here, still, Clean, Null, Room, unused, ahead, Owned, Inv, Sound}
 use Rattle.trace.proofs.Facts.{not_staying}
 use Rattle.trace.proofs.Marking.{unmoved}
-use Rattle.trace.proofs.Spots.{pool_not_free, pool_same}
+use Rattle.trace.proofs.Spots.{pool_same}
 
 -- an object or a padding, of at least one word
 pub record Sorted (M : Meaning) (x : Thing) : Type 0 where

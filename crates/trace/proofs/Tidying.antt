@@ -1,11 +1,11 @@
 -- The sweep of all segments.
-use Rattle.std.proofs.Common.{◌≡◌, ℕ, zero, suc, ◌+◌, ◌-◌, ◌*◌, ◌/◌, ◌<◌, ◌≤◌, Bool, true, false, eqb, ◌≢◌, ◌⊎◌, List, length, get_or, drop, set, replicate, sym, refl, ap, ◌∙◌, subst, inl, inr, arith, length-set, eq-eqb, ne_eqb, None}
+use Rattle.std.proofs.Common.{◌≡◌, ℕ, zero, suc, ◌+◌, ◌-◌, ◌*◌, ◌/◌, ◌<◌, ◌≤◌, Bool, true, false, eqb, ◌≢◌, ◌⊎◌, List, length, get_or, drop, set, replicate, sym, refl, ap, ◌∙◌, inl, inr, arith, length-set, eq-eqb, ne_eqb, None}
 use native.Mathlib.Decide.{dec_lt}
 use borrow.Rule.Slice.PartMut.{put_mid}
 use Rattle.std.proofs.lemmas.Bool.{cases_Bool, cond-true, cond-false, le-leb, cases_eq}
 use Rattle.std.proofs.lemmas.List.{length-replicate, get_or-replicate, get_or-drop, get_or_append_left, get_or-set_same, get_or-set_other}
 use Rattle.std.proofs.lemmas.Slice.{drop-put_mid}
-use Rattle.format.specs.Meaning.{Meaning, Thing, object, reads, span}
+use Rattle.format.specs.Meaning.{Meaning, object, reads, span}
 use Rattle.format.specs.Laws.{Lawful}
 use Rattle.format.proofs.Memory.{length_put, drop_put, get_or_put_outside, part_before}
 use Rattle.arena.specs.declared.segments.Segments.{Segments}
