@@ -159,9 +159,12 @@ module _ (S : Start) (ok : Sound S) (laws : Lawful S.meaning) (Todo : ℕ → Ty
       let h : head_at S.meaning t.words p ≡ Object sh =
       seen_object S.meaning laws t.words p (layout0 S a) (slots_of (rd S t.words p)) b.shape (limit_of p) (omega arith)
       ∙ ap (λ (n : ℕ). Object (shape (layout0 S a) n)) b.many in
-      rw (cond-false (ltb 65535 p) t _ (le-ltb 65535 p (omega (arith, inv.ready.few)))
-      ∙ cond-false (ltb (length t.words) (limit_of p)) t _ (le-ltb (length t.words) (limit_of p) (omega arith))
-      ∙ ap (by_object S.meaning S.plan t p) h, size_is) (slots_ok (length (slots0 S a)) t inv (omega arith) f)
+      rw (
+        cond-false (ltb 65535 p) t _ (le-ltb 65535 p (omega (arith, inv.ready.few)))
+            ∙ cond-false (ltb (length t.words) (limit_of p)) t _ (le-ltb (length t.words) (limit_of p) (omega arith))
+            ∙ ap (by_object S.meaning S.plan t p) h,
+        size_is,
+      ) (slots_ok (length (slots0 S a)) t inv (omega arith) f)
     where
       cell_inside : (t : Heap) → Inv S Todo t → Cell S t.words a p → p / 256 * 256 + 256 ≤ length t.words
       cell_inside t inv (same e) = rw e (omega (arith, ok.inside a sa, inv.long))
