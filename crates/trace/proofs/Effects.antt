@@ -31,8 +31,7 @@ module _ (S : Start) (laws : Lawful S.meaning) where
   pad_is : (ws : List ℕ) (a e : ℕ) → e ≤ length ws → 1 ≤ e - a → e - a ≤ 256 → padded_part m a e ws ≡ rewritten m.padded a (e - a) ws
   pad_is ws a e h l g =
       let n : length (part a (e - a) ws) ≡ e - a = length-take-le (e - a) (drop a ws) (omega (arith, length-drop a ws)) in
-      cond-true (leb a e && leb e (length ws)) _ ws (rw (le-leb a e (omega arith), le-leb e (length ws) h) refl)
-      ∙ ap (put_mid a (e - a) ws) (rw (le-leb 1 (length (part a (e - a) ws)) (omega arith), le-leb (length (part a (e - a) ws)) 256 (omega arith)) refl)
+      rw (le-leb a e (omega arith), le-leb e (length ws) h, le-leb 1 (length (part a (e - a) ws)) (omega arith), le-leb (length (part a (e - a) ws)) 256 (omega arith)) refl
 
   pub record Padded (ws k : List ℕ) (a n : ℕ) : Type 0 where
     pub long : length k ≡ length ws
@@ -44,9 +43,8 @@ module _ (S : Start) (laws : Lawful S.meaning) where
   pad_none ws a =
       let z : a - a ≡ 0 = omega arith in
       elim (cases_lt (length ws) a) [
-        | inl l ↦ cond-false (leb a a && leb a (length ws)) _ ws (rw (le-leb a a (omega arith), lt-leb a (length ws) l) refl)
-        | inr l ↦ cond-true (leb a a && leb a (length ws)) _ ws (rw (le-leb a a (omega arith), le-leb a (length ws) l) refl)
-            ∙ ap (λ (n : ℕ). put_mid a n ws (pad_words m (part a n ws))) z ∙ take-append-drop a ws
+        | inl l ↦ rw (le-leb a a (omega arith), lt-leb a (length ws) l) refl
+        | inr l ↦ rw (le-leb a a (omega arith), le-leb a (length ws) l, z) (take-append-drop a ws)
       ]
 
   pub pad_effect : (ws : List ℕ) (a n : ℕ) → n ≤ 256 → (1 ≤ n → a + n ≤ length ws) → Padded ws (padded_part m a (a + n) ws) a n

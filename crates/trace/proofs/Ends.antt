@@ -7,7 +7,7 @@ use Rattle.format.specs.Laws.{Lawful}
 use Rattle.trace.specs.Traces.{Heap}
 use Rattle.trace.specs.Keeping.{Row, ends, piece, is_base}
 use Rattle.trace.proofs.Cells.{slots_of, rd, Start, Std, size0, layout0, Obj, Moved, same, copy, move, Body, Covered, Front, Inv, Sound}
-use Rattle.trace.proofs.Facts.{body_real, cell_real}
+use Rattle.trace.proofs.Facts.{body_real, cell_real, one_cell}
 use Rattle.trace.proofs.Putting.{final_body}
 use Rattle.trace.proofs.Busy.{is_object}
 use Rattle.trace.proofs.Rows.{base_cases, base_first, base_later}
@@ -102,10 +102,7 @@ module _ (S : Start) (ok : Sound S) (laws : Lawful S.meaning) (Todo : ℕ → Ty
               | inr y ↦ elim y [ inl z ↦ z | inr z ↦ omega arith ]
             ] in
             let same_one : (c2 : ℕ) → Std S c2 → Moved S t.words c2 x → c2 ≡ a
-            = λ c2 h m. elim (inv.apart c2 x a x h o.0 (copy m) (copy g)) [
-              | inl y ↦ y.0
-              | inr y ↦ elim y [ inl z ↦ absurd (omega (arith, ok.some c2 h)) | inr z ↦ absurd (omega (arith, ok.some a o.0)) ]
-            ] in
+            = λ c2 h m. one_cell S ok Todo t inv a c2 x x o.0 h (copy g) (copy m) refl in
             let edge2 : Edge (x + size0 S a) = λ c2 d2 h m y l. elim (dec_lt d2 x) [
               | yes z ↦ (let w = edge c2 d2 h m y z in omega arith)
               | no z ↦ elim (cases_eq d2 x) [

@@ -142,11 +142,8 @@ module _ (S : Start) (ok : Sound S) (laws : Lawful S.meaning) (Todo : ℕ → Ty
       cp : Copying S t.words (copy_words_to b) a b (size0 S a)
       cp =
           let top : b ≤ S.meaning.greatest_address = omega (arith, high, ok.some a sa, inv.long, ok.top) in
-          let f = copying S laws t.words a (layout0 S a) (slots_of (rd S t.words a)) body.shape b pl.low top in
-          let g : (n : ℕ) → n ≡ size0 S a → (b + n ≤ length t.words → Apart a n b n → Copying S t.words (copied_words S.meaning t.words a n b) a b n)
-          → Copying S t.words (copy_words_to b) a b (size0 S a)
-          = λ n e k. subst (λ (n : ℕ). b + n ≤ length t.words → Apart a n b n → Copying S t.words (copied_words S.meaning t.words a n b) a b n) e k high apart_new in
-          g (S.meaning.size (shape (layout0 S a) (length (slots_of (rd S t.words a))))) size_now f
+          let f = rw size_now at (copying S laws t.words a (layout0 S a) (slots_of (rd S t.words a)) body.shape b pl.low top) in
+          f high apart_new
 
       keep : (s : ℕ) → owner t s ≢ None → owner u s ≡ owner t s
       keep = owner_onto S t inv.ready p b spot (size0 S a) (ok.some a sa) fit u cp.long onto
@@ -301,11 +298,8 @@ module _ (S : Start) (ok : Sound S) (laws : Lawful S.meaning) (Todo : ℕ → Ty
       | inl e ↦ (let l = leb-true (size0 S a) (rest (target t p)) e in
           let o = ok.some a sb in
           let k = inv.ready.owned p (omega arith) in
-          rw (cond-true (leb (size0 S a) (rest (target t p)) && leb (target t p + size0 S a) (min (length t.words) 65536)) _ _
-          (rw (e, le-leb (target t p + size0 S a) (min (length t.words) 65536) (omega (arith, k.1, inv.ready.few))) refl))
-          (fix_onward p pin c own l))
-      | inr e ↦ rw (cond-false (leb (size0 S a) (rest (target t p)) && leb (target t p + size0 S a) (min (length t.words) 65536)) _ _ (rw e refl))
-          (fix_free p pin c own (lowest_free t.state.segments (length t.words)) refl)
+          rw (e, le-leb (target t p + size0 S a) (min (length t.words) 65536) (omega (arith, k.1, inv.ready.few))) (fix_onward p pin c own l))
+      | inr e ↦ rw e (fix_free p pin c own (lowest_free t.state.segments (length t.words)) refl)
     ]
 
     fix_class : (p : ℕ) → p < 8 → owner0 S (a / 256) ≡ Some p → (leafy S p ≡ true → AllFit Null (slots0 S a) (slots0 S a)) → (x : Class) → class_of S.plan p ≡ x → FixedBy (by_class t.state (length t.words) p (size0 S a) x)
@@ -317,7 +311,7 @@ module _ (S : Start) (ok : Sound S) (laws : Lawful S.meaning) (Todo : ℕ → Ty
     fix_owner =
         let o = inv.owned a sb in
         let pin = (inv.fill.pools (a / 256) o.pool o.is).0 in
-        rw (o.is, cond-true (ltb o.pool 8) _ Stay (lt-ltb o.pool 8 pin)) (fix_class o.pool pin o.was o.leaf (class_of S.plan o.pool) refl)
+        rw (o.is, lt-ltb o.pool 8 pin) (fix_class o.pool pin o.was o.leaf (class_of S.plan o.pool) refl)
 
     abbrev found : Head
     found = Object (shape (layout0 S a) (length (slots_of (rd S t.words a))))
@@ -327,7 +321,7 @@ module _ (S : Start) (ok : Sound S) (laws : Lawful S.meaning) (Todo : ℕ → Ty
 
     pub fix_unmoved : FixedBy (fate_of S.meaning S.plan t a)
     fix_unmoved =
-        rw (cond-true (sought S.plan (length t.words) t.marks a) _ Stay (sought_yes S ok t inv.long inv.ready.few a sb gone), head_now, size_now t inv a oa gone body) fix_owner
+        rw (sought_yes S ok t inv.long inv.ready.few a sb gone, head_now, size_now t inv a oa gone body) fix_owner
 
   -- what stays
   fix_stays : (t : Heap) → Inv S Todo t → (r v : ℕ) → stays S t v ≡ true → Settled S t r v → Fixed S Todo t r (fix_answer S.meaning S.plan t v) (fixed S.meaning S.plan t v)
@@ -338,8 +332,7 @@ module _ (S : Start) (ok : Sound S) (laws : Lawful S.meaning) (Todo : ℕ → Ty
   -- what has gone
   fix_gone : (t : Heap) → Inv S Todo t → (r b : ℕ) → Obj S r → stays S t r ≡ false → Moved S t.words r b → Fixed S Todo t r (fix_answer S.meaning S.plan t r) (fixed S.meaning S.plan t r)
   fix_gone t inv r b s h g =
-      rw (cond-true (sought S.plan (length t.words) t.marks r) _ Stay (sought_yes S ok t inv.long inv.ready.few r s.0 h)
-      ∙ ap (by_head S.meaning S.plan t.state (length t.words) r) (seen_forwarded S.meaning laws t.words r (limit_of r) (size0 S r) (omega (arith, ok.seg r s.0)) b g))
+      rw (sought_yes S ok t inv.long inv.ready.few r s.0 h, seen_forwarded S.meaning laws t.words r (limit_of r) (size0 S r) (omega (arith, ok.seg r s.0)) b g)
       (unchanged t inv r b (settled s (move g)))
 
   fix_same : (t : Heap) → Inv S Todo t → (r : ℕ) → Obj S r → Fixed S Todo t r (fix_answer S.meaning S.plan t r) (fixed S.meaning S.plan t r)

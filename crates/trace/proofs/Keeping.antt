@@ -32,20 +32,12 @@ module _ (S : Start) (ok : Sound S) (Todo : ℕ → Type 0) (t : Heap) (inv : In
   pub is_fate : (a p : ℕ) → Obj S a → placed_at a ≡ Some p → Final S t a p
   is_fate a p s e = go (inv.held a s.0)
     where
-      some_is : (q : ℕ) → Some q ≡ Some p → q ≡ p
-      some_is q e = cc
-
-      none_not : None ≡ Some p → ⊥
-      none_not e = cc
-
       go : Held S t.words a → Final S t a p
-      go (here b) =
-          let f : cond (not (condemns S.plan a) || marked t a) (Some a) None ≡ Some p = sym (ap (place_by (not (condemns S.plan a) || marked t a) a) b.shape) ∙ e in
-          elim (cases_Bool (not (condemns S.plan a) || marked t a)) [
-            | inl h ↦ stay (sym (some_is a (sym (cond-true (not (condemns S.plan a) || marked t a) (Some a) None h) ∙ f))) (stays_left a h)
-            | inr h ↦ absurd (none_not (sym (cond-false (not (condemns S.plan a) || marked t a) (Some a) None h) ∙ f))
-          ]
-      go (away b g k) = move (subst (Moved S t.words a) (some_is b (sym (ap (place_by (not (condemns S.plan a) || marked t a) a) g) ∙ e)) g)
+      go (here b) = elim (cases_Bool (not (condemns S.plan a) || marked t a)) [
+        | inl h ↦ (let f : Some a ≡ Some p = rw (b.shape, h) at e in stay (cc) (stays_left a h))
+        | inr h ↦ (let f : None ≡ Some p = rw (b.shape, h) at e in absurd (cc))
+      ]
+      go (away b g k) = (let f : Some b ≡ Some p = rw g at e in let q : b ≡ p = cc in move (rw (← q) g))
       go (still w f) = (cc)
 
   pub follows : (r q : ℕ) → Settled S t r q → Follows S.meaning S.plan t r q

@@ -137,14 +137,8 @@ module _ (m : Meaning) (laws : Lawful m) (h : Held) (pools : ℕ) (sa : SoundAre
       let o = d.0 in
       let k = seat S laws sa.space q o.0.0 in
       let w = sa.space.owned (q / 256) k.pool k.owner in
-      let sc : to_scan S ok laws (q / 256) ≡ true = ready (get_or y.condemned (q / 256) false) (owner0 S (q / 256)) o.1 k.pool k.owner w.0 (o.2 k.pool k.owner) in
+      let sc : to_scan S ok laws (q / 256) ≡ true = rw (o.1, k.owner, lt-ltb k.pool 8 w.0, o.2 k.pool k.owner) refl in
       both_ways (is_base m ws0 (q / 256 * 256 + 256) 256 (q / 256 * 256) q) (d.1 (q / 256) (omega (arith, w.1, rooted_up.inv.long, sa.space.whole.1)) sc) k.base
-    where
-      ready : (c : Bool) (o : Owner) → c ≡ false → (p : ℕ) → o ≡ Some p → p < 8 → leafy S p ≡ false → (not c && refers y.classes o) ≡ true
-      ready c o e p f l n = rw (e, f) (pair (ltb p 8) (leafy S p) (lt-ltb p 8 l) n)
-        where
-          pair : (x z : Bool) → x ≡ true → z ≡ false → (x && not z) ≡ true
-          pair x z e f = rw (e, f) refl
 
   abbrev Nil : ℕ → Type 0
   Nil q = ⊥
@@ -322,6 +316,4 @@ module _ (m : Meaning) (laws : Lawful m) (h : Held) (pools : ℕ) (sa : SoundAre
 
 pub collections_keep : CollectionsKeep
 collections_keep m laws h pools sa f c =
-    rw (cond-true (fits m (length h.words) (length h.marks) (length h.greys)) _ (refused WrongLength h) f
-    ∙ cond-true (can_age h.arena.history) (answering (performed m (plan_of h.arena pools) (held_aged h pools))) (refused CollectionsSpent h) c)
-    (performed_keeps m laws h pools sa)
+    rw (f, c) (performed_keeps m laws h pools sa)

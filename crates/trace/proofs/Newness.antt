@@ -14,14 +14,13 @@ use Rattle.trace.proofs.Facts.{get_or_all}
 use Rattle.trace.proofs.Spots.{pool_not_free}
 
 nowhere : (m : Meaning) (ws : List ℕ) → padded_part m 0 0 ws ≡ ws
-nowhere m ws = elim (cases_Bool (leb 0 0 && leb 0 (length ws))) [ inl e ↦ cond-true (leb 0 0 && leb 0 (length ws)) ws ws e | inr e ↦ cond-false (leb 0 0 && leb 0 (length ws)) ws ws e ]
+nowhere m ws = elim (cases_Bool (leb 0 0 && leb 0 (length ws))) [ inl e ↦ rw e refl | inr e ↦ rw e refl ]
 
 -- no buffer has words
 none_closed : (m : Meaning) (ws : List ℕ) (k : ℕ) → buffers_closed m (replicate 8 no_buffer) ws k ≡ ws
 none_closed m ws zero = refl
 none_closed m ws (suc k) =
-    ap (λ b. padded_part m b.init b.limit (buffers_closed m (replicate 8 no_buffer) ws k)) (get_or_all 8 k no_buffer)
-    ∙ nowhere m (buffers_closed m (replicate 8 no_buffer) ws k) ∙ none_closed m ws k
+    rw (get_or_all 8 k no_buffer) (nowhere m (buffers_closed m (replicate 8 no_buffer) ws k) ∙ none_closed m ws k)
 
 pub unclosed : (m : Meaning) (ws : List ℕ) → all_buffers_closed m (replicate 8 no_buffer) ws ≡ ws
 unfolding all_buffers_closed

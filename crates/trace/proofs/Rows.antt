@@ -15,6 +15,7 @@ use Rattle.trace.specs.Keeping.{Sound as SoundSpace}
 use Rattle.trace.proofs.Cells.{Apart, slots_of, layout_of, owner, target, marked, grey, stays, rd, owner0, leafy, Start, Std, thing0, size0, layout0, slots0, Obj, Fits, AllFit, Moved, Cell, same, copy, Names, null, names, Final, stay, move, Settled, empty, Body, Held, here, still, Clean, Null, Room, unused, ahead, Owned, Inv, Sound}
 use Rattle.trace.proofs.Facts.{not_staying}
 use Rattle.trace.proofs.Marking.{unmoved}
+use Rattle.trace.proofs.Putting.{seg_apart}
 use Rattle.trace.proofs.Spots.{pool_same}
 
 -- an object or a padding, of at least one word
@@ -158,7 +159,7 @@ module _ (S : Start) (laws : Lawful S.meaning) (ar : SoundSpace S.meaning S.plan
     refs = λ a o i. refs_fit (get_or (slots0 S a) i (Number 0)) (ar.leads a (layout0 S a) i (slots0 S a) (at_obj a o));
     apart = λ a c s r. let x = seat a s in let y = seat c r in elim (cases_eq (a / 256) (c / 256)) [
       | inl e ↦ row_apart M laws m (a / 256 * 256 + 256) 256 (a / 256 * 256) a c (ar.rows (a / 256) x.pool x.owner) x.base (subst (λ (s : ℕ). is_base M m (s * 256 + 256) 256 (s * 256) c ≡ true) (sym e) y.base)
-      | inr n ↦ inr (far a c n x.within.high y.within.high)
+      | inr n ↦ inr (seg_apart a (size0 S a) c (size0 S c) n (omega (arith, x.within.high)) (omega (arith, y.within.high)))
     ];
     seg = λ a s. (let h : a + size0 S a ≤ a / 256 * 256 + 256 = (seat a s).within.high in omega arith);
     inside = λ a s. (seat a s).below;

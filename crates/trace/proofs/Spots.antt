@@ -19,17 +19,10 @@ owner_cases (Some p) = inr (p, refl)
 
 free_found : (k : ℕ) (g : Segments) (s r : ℕ) → free_among k g s ≡ Some r → (s ≤ r) × (r < s + k) × (owner_of g r ≡ None)
 free_found zero g s r e = cc
-free_found (suc k) g s r e = go (λ z. free_found k g (s + 1) r z) (owner_of g s) refl
-  where
-    go : (free_among k g (s + 1) ≡ Some r → (s + 1 ≤ r) × (r < s + 1 + k) × (owner_of g r ≡ None)) → (o : Owner) → owner_of g s ≡ o → (s ≤ r) × (r < s + suc k) × (owner_of g r ≡ None)
-    go rec None f =
-        let z : Some s ≡ Some r = subst (λ (o : Owner). free_or o s (free_among k g (s + 1)) ≡ Some r) f e in
-        let y : s ≡ r = cc in
-        (omega arith, omega arith, rw (← y) f)
-    go rec (Some p) f =
-        let z : free_among k g (s + 1) ≡ Some r = subst (λ (o : Owner). free_or o s (free_among k g (s + 1)) ≡ Some r) f e in
-        let n = rec z in
-        (omega (arith, n.0), omega (arith, n.1), n.2)
+free_found (suc k) g s r e = elim (owner_cases (owner_of g s)) [
+  | inl f ↦ (let z : Some s ≡ Some r = rw f at e in let y : s ≡ r = cc in (omega arith, omega arith, rw (← y) f))
+  | inr o ↦ (let n = free_found k g (s + 1) r (rw o.1 at e) in (omega (arith, n.0), omega (arith, n.1), n.2))
+]
 
 -- the lowest free segment is free, and lies in the arena
 pub lowest_is_free : (g : Segments) (len s : ℕ) → lowest_free g len ≡ Some s → (1 ≤ s) × (s < 256) × (s * 256 + 256 ≤ len) × (owner_of g s ≡ None)

@@ -1,7 +1,7 @@
 -- After the sweep the arena is sound again, and its objects are those that were kept.
 use Rattle.std.proofs.Common.{◌≡◌, ℕ, ◌+◌, ◌-◌, ◌*◌, ◌/◌, ◌%◌, ◌<◌, Bool, true, false, ◌⊎◌, List, length, get_or, sym, refl, ap, ◌∙◌, subst, inl, inr, arith, Some, None}
 use borrow.Author.Tests.{both_ways}
-use Rattle.std.proofs.lemmas.Bool.{and_parts, and_from}
+use Rattle.std.proofs.lemmas.Bool.{and_parts, and_from, true_from_ne_false}
 use Rattle.format.specs.declared.things.Slot.{Slot}
 use Rattle.format.specs.declared.things.Slot.TheVariants.{Reference, Number}
 use Rattle.format.specs.Meaning.{Meaning, Thing, nothing, object, forwarded, padding}
@@ -15,6 +15,7 @@ use Rattle.trace.proofs.Cells.{slots_of, layout_of, owner, target, marked, grey,
 use Rattle.trace.proofs.Facts.{stays_by_zone, stays_by_mark, cell_real, not_staying}
 use Rattle.trace.proofs.Putting.{final_body}
 use Rattle.trace.proofs.Spots.{pool_not_free, owner_cases}
+use Rattle.trace.proofs.Putting.{cell_used}
 use Rattle.trace.proofs.Busy.{is_object}
 use Rattle.trace.proofs.Rows.{sorted, owner_is, in_row, self_object}
 use Rattle.trace.proofs.Sweeps.{Chain, Base, first, next, row_chain, row_after, base_back, base_on, base_link, object_piece, padding_piece}
@@ -113,11 +114,7 @@ module _ (S : Start) (ok : Sound S) (laws : Lawful S.meaning) (t : Heap) (inv : 
       go b ch (out (a / 256))
     where
       marked_a : condemns S.plan a ≡ true → marked t a ≡ true
-      marked_a c = by (marked t a) refl
-        where
-          by : (x : Bool) → marked t a ≡ x → marked t a ≡ true
-          by true e = e
-          by false e = absurd (both_ways (stays S t a) (not_staying S t a (omega (arith, ok.low a o.0)) c e) h)
+      marked_a c = true_from_ne_false (marked t a) (λ e. both_ways (stays S t a) (not_staying S t a (omega (arith, ok.low a o.0)) c e) h)
 
       go : Base S m (a / 256 * 256 + 256) (a / 256 * 256) a → Chain S m (a / 256 * 256 + 256) (a / 256 * 256)
           → Outcome S laws t.marks (get_or S.plan.condemned (a / 256) false) (a / 256) m k (owner t (a / 256)) (owner_of g' (a / 256)) → Stands a
@@ -145,8 +142,7 @@ module _ (S : Start) (ok : Sound S) (laws : Lawful S.meaning) (t : Heap) (inv : 
       go (tidy c e f) w = absurd (both_ways (condemns S.plan p) safe c)
       go (wiped c e f wz) w = absurd (both_ways (condemns S.plan p) safe c)
       go (calm c e f wd) (inl w) =
-          let h = inv.copied a p o.0 g in
-          absurd (elim (inv.room p a p (unused h.low (omega (arith, h.high, ok.some a o.0)) w) o.0 (copy g)) [ inl x ↦ omega arith | inr x ↦ omega (arith, ok.some a o.0) ])
+          absurd (cell_used S ok (λ q. ⊥) t inv a p o.0 (copy g) w)
       go (calm c e f wd) (inr w) =
           let h = inv.copied a p o.0 g in
           let b = new_built (p / 256) w.0 h.fresh w.1 (inv.fill.fronts (p / 256) w.0 h.fresh w.1) in
@@ -280,7 +276,7 @@ module _ (S : Start) (ok : Sound S) (laws : Lawful S.meaning) (t : Heap) (inv : 
             go (move g) =
                 let h = inv.copied c.from q c.obj.0 g in
                 elim (owner_cases (owner t (q / 256))) [
-                  | inl z ↦ absurd (elim (inv.room q c.from q (unused h.low (omega (arith, h.high, ok.some c.from c.obj.0)) z) c.obj.0 (copy g)) [ inl x ↦ omega arith | inr x ↦ omega (arith, ok.some c.from c.obj.0) ])
+                  | inl z ↦ absurd (cell_used S ok (λ q. ⊥) t inv c.from q c.obj.0 (copy g) z)
                   | inr z ↦ (let y = calm_owner z.0 z.1 (out (q / 256)) in
                       absurd (both_ways (leafy S z.0) (inv.fill.plain (q / 256) z.0 h.fresh z.1) (rw (← y) lf)))
                 ]

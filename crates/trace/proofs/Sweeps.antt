@@ -255,21 +255,17 @@ module _ (S : Start) (laws : Lawful S.meaning) where
       go : (x : Thing) → rd S m a ≡ x → stood S.meaning m ms a e ≡ loose (a + span S.meaning (rd S m a))
       go nothing f = absurd (l.real f)
       go (object ly ss) f =
-          let z = ap (span S.meaning) f in
-          loose_by ms a e (span S.meaning (rd S m a)) _ u (inl (shape ly (length ss), (seen_object S.meaning laws m a ly ss f e (rw (← z) h), sym z)))
+          rw (seen_object S.meaning laws m a ly ss f e (rw f at h), u, f) refl
       go (forwarded k to) f =
-          let z = ap (span S.meaning) f in
-          loose_by ms a e (span S.meaning (rd S m a)) _ u (inr (inl (to, seen_forwarded S.meaning laws m a e k (rw (← z) h) to f ∙ ap (λ (n : ℕ). Forwarded n to) (sym z))))
+          rw (seen_forwarded S.meaning laws m a e k (rw f at h) to f, f) refl
       go (padding k) f =
-          let z = ap (span S.meaning) f in
-          loose_by ms a e (span S.meaning (rd S m a)) _ u (inr (inr (seen_padding S.meaning laws m a e k (rw (← z) h) f ∙ ap Padding (sym z))))
+          rw (seen_padding S.meaning laws m a e k (rw f at h) f, f) refl
 
   stood_kept : (ms : List ℕ) (m : List ℕ) (e a : ℕ) → rd S m a ≡ object (layout_of (rd S m a)) (slots_of (rd S m a)) → a + span S.meaning (rd S m a) ≤ e → bit ms a ≡ true
       → stood S.meaning m ms a e ≡ kept (a + span S.meaning (rd S m a))
   stood_kept ms m e a ob h u =
       let z = ap (span S.meaning) ob in
-      ap (stand_by ms a e S.meaning) (seen_object S.meaning laws m a (layout_of (rd S m a)) (slots_of (rd S m a)) ob e (rw (← z) h))
-      ∙ ap (λ (b : Bool). record { end = a + S.meaning.size (shape (layout_of (rd S m a)) (length (slots_of (rd S m a)))); is_kept = b }) u ∙ ap (λ (n : ℕ). kept (a + n)) (sym z)
+      rw (seen_object S.meaning laws m a (layout_of (rd S m a)) (slots_of (rd S m a)) ob e (rw (← z) h), u, z) refl
 
   abbrev walk : List ℕ → ℕ → ℕ → SweepRow → ℕ → SweepRow
   walk ms e k r a = walked (thing_swept S.meaning ms e) (thing_end S.meaning ms e) e k r a

@@ -164,15 +164,13 @@ module _ (S : Start) (laws : Lawful S.meaning) (ms : List ℕ) where
     swept_cases = elim walked_row.which [
       | inr l ↦ (let e : eqb last.run (s * 256) ≡ false = ne_eqb last.run (s * 256) (λ z. omega arith) in
           inl (record {
-            words = rw (cond-true (in_arena (length k) s) (last_words M s last) k in_it ∙ cond-false (eqb last.run (s * 256)) (freed_words last.words s) _ e) walked_row.swept;
-            segments = cond-true (in_arena (length k) s) (last_segments h s last) h in_it ∙ cond-false (eqb last.run (s * 256)) (freed h (length last.words) s) h e;
+            words = rw (in_it, e) walked_row.swept;
+            segments = rw (in_it, e) refl;
           }))
       | inl x ↦ (let e : eqb last.run (s * 256) ≡ true = eq-eqb last.run (s * 256) x.0.1 in
           inr (record {
-            words = cond-true (in_arena (length k) s) (last_words M s last) k in_it ∙ cond-true (eqb last.run (s * 256)) (freed_words last.words s) _ e
-                ∙ ap (λ (z : List ℕ). freed_words z s) x.0.0 ∙ cond-true (in_arena (length k) s) (put_mid (s * 256) 256 k (replicate 256 0)) k in_it;
-            segments = cond-true (in_arena (length k) s) (last_segments h s last) h in_it ∙ cond-true (eqb last.run (s * 256)) (freed h (length last.words) s) h e
-                ∙ ap (λ (z : List ℕ). freed h (length z) s) x.0.0 ∙ cond-true (in_arena (length k) s) (record { owners = set h.owners s None }) h in_it;
+            words = rw (in_it, e, x.0.0, in_it) refl;
+            segments = rw (in_it, e, x.0.0, in_it) refl;
             unmarked = x.1;
           }))
     ]
@@ -200,7 +198,7 @@ module _ (S : Start) (laws : Lawful S.meaning) (ms : List ℕ) where
               (λ j ne. ap (λ (z : Segments). owner_of z j) kp.segments)
               (tidy ec (ap (λ (z : Segments). owner_of z s) kp.segments ∙ (a.coming s (omega arith)).1)
               (tidy_from s m x.words k f.chain al (record { kept = sw.kept; row = sw.row; old = sw.old; new = sw.new }))))
-          | inr fr ↦ rw (ap (λ (h : Segments). ground h (swept_words M x.words ms s)) fr.segments ∙ ap (ground (record { owners = set x.segments.owners s None })) fr.words)
+          | inr fr ↦ rw (fr.segments, fr.words)
               (step_past m g y.condemned s x (ground (record { owners = set x.segments.owners s None }) (wiped_words s x.words ins)) a
               (length_put (s * 256) 256 x.words (replicate 256 0) ins (length-replicate {A = ℕ} 256 0)) (length-set x.segments.owners s None)
               (λ j ne. wipe_alike s x.words ins j ne) (λ j ne. wipe_words s x.words ins j ne) (λ j ne. get_or-set_other x.segments.owners s j None None ne)

@@ -50,9 +50,7 @@ module _ (S : Start) (ok : Sound S) (laws : Lawful S.meaning) where
       go (away b g h) = (cc)
       go (still w f) =
           let i = ok.inside a s in
-          cond-false (ltb 65535 a) t _ (le-ltb 65535 a (omega (arith, inv.ready.few, inv.long)))
-          ∙ cond-false (ltb (length t.words) (limit_of a)) t _ (le-ltb (length t.words) (limit_of a) (omega (arith, inv.long)))
-          ∙ ap (by_object M S.plan t a) (seen_padding M laws t.words a (limit_of a) (size0 S a) (omega (arith, ok.seg a s)) f)
+          rw (le-ltb 65535 a (omega (arith, inv.ready.few, inv.long)), le-ltb (length t.words) (limit_of a) (omega (arith, inv.long)), seen_padding M laws t.words a (limit_of a) (size0 S a) (omega (arith, ok.seg a s)) f) refl
 
   -- one thing of a row
   scan_piece : (Todo : ℕ → Type 0) → ((q : ℕ) → Todo q → Obj S q) → (t : Heap) → Inv S Todo t → (a : ℕ) → Std S a → condemns S.plan a ≡ false
@@ -187,8 +185,7 @@ module _ (S : Start) (ok : Sound S) (laws : Lawful S.meaning) where
   point_step : (Todo : ℕ → Type 0) (t : Heap) → Inv S Todo t → (e w k a : ℕ) → a < e → Std S a → a + size0 S a ≤ e
       → point t e w (suc k) a ≡ cond (ltb w (a + size0 S a)) (base_of (head_of t.words e a) a) (point t e w k (a + size0 S a))
   point_step Todo t inv e w k a low s l =
-      cond-true (ltb a e) _ None (lt-ltb a e low)
-      ∙ ap (λ (x : ℕ). cond (ltb w x) (base_of (head_of t.words e a) a) (point t e w k x)) (end_is Todo t inv e a s l)
+      rw (lt-ltb a e low, end_is Todo t inv e a s l) refl
 
   nail_row_ok : (e w k : ℕ) (Todo : ℕ → Type 0) (t : Heap) (a : ℕ) → Row M m e a → ((q : ℕ) → is_base M m e k a q ≡ true → Std S q) → Inv S Todo t → Nails Todo t (nailed_at t (point t e w k a))
   nail_row_ok e w zero Todo t a r h inv = nails_none Todo t inv
@@ -226,8 +223,7 @@ module _ (S : Start) (ok : Sound S) (laws : Lawful S.meaning) where
           let hi' : w < a + size0 S a = rw z hi in
           let w' : rd S t.words a ≡ object (layout0 S q) (slots0 S q) = ap (λ (ws : List ℕ). rd S ws a) f ∙ rw z o.1 in
           let n : M.size (shape (layout0 S q) (length (slots0 S q))) ≡ size0 S a = sym (ap (span M) o.1) ∙ ap (size0 S) (sym z) in
-          cond-true (ltb w (a + size0 S a)) _ _ (lt-ltb w (a + size0 S a) hi')
-          ∙ ap (λ (x : Head). base_of x a) (seen_object M laws t.words a (layout0 S q) (slots0 S q) w' e (omega arith)) ∙ ap Some z
+          rw (lt-ltb w (a + size0 S a) hi', seen_object M laws t.words a (layout0 S q) (slots0 S q) w' e (omega arith), z) refl
 
   -- ---- all ambiguous words
 
@@ -249,7 +245,7 @@ module _ (S : Start) (ok : Sound S) (laws : Lawful S.meaning) where
       | inr e ↦ rw e (nails_none Todo t inv)
       | inl e ↦ (let u = used (w / 256) (nails_condemned (length t.words) w e) in
           let r = rows (w / 256) u.0 u.1 in
-          rw (cond-true (nails S.plan (length t.words) w) _ t e ∙ ap (nailed_at t) (nail_is t w))
+          rw (e, nail_is t w)
           (nail_row_ok (w / 256 * 256 + 256) w 256 Todo t (w / 256 * 256) r.0 (λ q h. (r.1 q h).0) inv))
     ]
 
@@ -276,7 +272,7 @@ module _ (S : Start) (ok : Sound S) (laws : Lawful S.meaning) where
         let r = rows (q / 256) u.0 u.1 in
         let p : point t (w / 256 * 256 + 256) w 256 (w / 256 * 256) ≡ Some q =
         rw z (nail_row_finds (q / 256 * 256 + 256) w 256 Todo t (q / 256 * 256) q f r.0 (λ v h. (r.1 v h).0) inv b o bot hi) in
-        rw (cond-true (nails S.plan (length t.words) w) _ t e ∙ ap (nailed_at t) (nail_is t w ∙ p))
+        rw (e, nail_is t w ∙ p)
         ((laws_of t.marks).set_same q (omega (arith, i, inv.ready.marks, inv.ready.few, inv.long, ok.some q o.0)))
 
     pub nail_marks : (ws : List ℕ) (t : Heap) → Inv S Todo t → t.words ≡ m → (k i q : ℕ) → i < k → Obj S q → is_base M m (q / 256 * 256 + 256) 256 (q / 256 * 256) q ≡ true → condemns S.plan q ≡ true

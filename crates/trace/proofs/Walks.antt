@@ -68,6 +68,6 @@ pub ended_free : (m : Meaning) (g : Segments) (ws ms : List ℕ) (s : ℕ) (r : 
 ended_free m g ws ms s r e l h =
     let i = le-leb (s * 256 + 256) (length ws) l in
     let q = eq-eqb r.run (s * 256) h in (
-      sym (cond-true (in_arena (length ws) s) (last_segments g s (swept_row m ws ms (s * 256) (s * 256 + 256))) g i ∙ ap (last_segments g s) (sym e) ∙ cond-true (eqb r.run (s * 256)) (freed g (length r.words) s) g q),
-      sym (cond-true (in_arena (length ws) s) (last_words m s (swept_row m ws ms (s * 256) (s * 256 + 256))) ws i ∙ ap (last_words m s) (sym e) ∙ cond-true (eqb r.run (s * 256)) (freed_words r.words s) _ q),
+      rw (i, ← e, q) refl,
+      rw (i, ← e, q) refl,
     )
