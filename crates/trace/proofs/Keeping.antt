@@ -1,5 +1,5 @@
 -- A collection keeps a sound arena, and all that it does not let go.
-use Rattle.std.proofs.Common.{◌≡◌, ℕ, true, cond, not, ◌||◌, eqb, Some, None, Option, sym, ap, ◌∙◌, subst, inl, inr, arith, ne_eqb}
+use Rattle.std.proofs.Common.{◌≡◌, ℕ, true, cond, not, ◌||◌, eqb, Some, None, Option, sym, refl, ap, ◌∙◌, subst, inl, inr, arith, ne_eqb}
 use borrow.Author.Tests.{both_ways}
 use Rattle.std.proofs.lemmas.Bool.{cases_Bool, cond-true, cond-false, or_right}
 use Rattle.format.specs.declared.things.Slot.{Slot}
@@ -21,11 +21,11 @@ module _ (S : Start) (ok : Sound S) (Todo : ℕ → Type 0) (t : Heap) (inv : In
   stays_left a h = or_right (eqb a 0) _ h
 
   pub fate_is : (a p : ℕ) → Obj S a → Final S t a p → placed_at a ≡ Some p
-  fate_is a p s (move g) = ap (place_by (not (condemns S.plan a) || marked t a) a) g
+  fate_is a p s (move g) = rw g refl
   fate_is a p s (stay e h) = go (inv.held a s.0)
     where
       go : Held S t.words a → placed_at a ≡ Some p
-      go (here b) = ap (place_by (not (condemns S.plan a) || marked t a) a) b.shape ∙ cond-true (not (condemns S.plan a) || marked t a) (Some a) None (left_by a s.0 h) ∙ ap Some (sym e)
+      go (here b) = rw (b.shape, left_by a s.0 h, e) refl
       go (away b g k) = absurd (both_ways (stays S t a) (inv.copied a b s.0 g).left h)
       go (still w f) = (cc)
 

@@ -35,7 +35,7 @@ use Rattle.trace.proofs.Newness.{unclosed}
 use Rattle.trace.proofs.Whole.{swept_all, closed_up, traced_steps, condemned_at, condemned_past, aged_zone, closed_long}
 
 clear_bit_of : (n p : ℕ) → bit (replicate n 0) p ≡ false
-clear_bit_of n p = ap (λ w. bit_of w (p % 32)) (get_or_all n (p / 32) 0) ∙ zero_bit (p % 32)
+clear_bit_of n p = rw (get_or_all {A = ℕ} n (p / 32) 0) (zero_bit (p % 32))
 
 module _ (m : Meaning) (laws : Lawful m) (h : Held) (pools : ℕ) (sa : SoundArena m h) where
   abbrev y : Plan

@@ -166,12 +166,6 @@ module _ (S : Start) (laws : Lawful S.meaning) (ar : SoundSpace S.meaning S.plan
     used = λ a s e. (cc);
     top = ar.whole.2;
   }
-    where
-      far : (a c : ℕ) → a / 256 ≢ c / 256 → a + size0 S a ≤ a / 256 * 256 + 256 → c + size0 S c ≤ c / 256 * 256 + 256 → Apart a (size0 S a) c (size0 S c)
-      far a c n x y = elim (dec_lt a c) [ yes l ↦ inl (go a c (size0 S a) n x l) | no l ↦ inr (go c a (size0 S c) (λ e. n (sym e)) y (omega arith)) ]
-        where
-          go : (a c k : ℕ) → a / 256 ≢ c / 256 → a + k ≤ a / 256 * 256 + 256 → a < c → a + k ≤ c
-          go a c k n x l = let z : a / 256 < c / 256 = omega arith in omega arith
 
   -- how a trace begins
   pub record Fresh (t : Heap) : Type 0 where

@@ -14,7 +14,7 @@ use Rattle.trace.specs.Keeping.{Sound as SoundSpace}
 use Rattle.trace.proofs.Cells.{slots_of, layout_of, owner, target, marked, grey, stays, rd, owner0, leafy, Start, Std, thing0, size0, layout0, slots0, Obj, Fits, AllFit, Moved, same, copy, Names, null, names, Final, stay, move, Settled, empty, settled, Held, here, away, still, Clean, Null, unused, Front, Inv, Sound}
 use Rattle.trace.proofs.Facts.{stays_by_zone, stays_by_mark, cell_real, not_staying}
 use Rattle.trace.proofs.Putting.{final_body}
-use Rattle.trace.proofs.Spots.{pool_not_free, owner_cases}
+use Rattle.trace.proofs.Spots.{pool_not_free, owner_cases, pool_same}
 use Rattle.trace.proofs.Putting.{cell_used}
 use Rattle.trace.proofs.Busy.{is_object}
 use Rattle.trace.proofs.Rows.{sorted, owner_is, in_row, self_object}
@@ -220,6 +220,14 @@ module _ (S : Start) (ok : Sound S) (laws : Lawful S.meaning) (t : Heap) (inv : 
             by_old z.0 z.1 c y (rw (← f q l.0 l.2 l.1) i))
       ]
 
+  own_before : (s p : ℕ) → owner_of g' s ≡ Some p → owner t s ≡ Some p
+  own_before s p e = go (out s)
+    where
+      go : Outcome S laws t.marks (get_or S.plan.condemned s false) s m k (owner t s) (owner_of g' s) → owner t s ≡ Some p
+      go (calm c f x wd) = sym f ∙ e
+      go (tidy c f x) = sym f ∙ e
+      go (wiped c f x wz) = (cc)
+
   module _ (white : (p : ℕ) → grey t p ≡ false) where
     pub cleaned : (a p : ℕ) → Obj S a → Final S t a p → Clean S t a (rd S m p)
     cleaned a p o f = elim (inv.clean a p o f) [ inl x ↦ absurd (elim x [ inl g ↦ both_ways (grey t p) (white p) g | inr d ↦ d ]) | inr c ↦ c ]
@@ -257,11 +265,8 @@ module _ (S : Start) (ok : Sound S) (laws : Lawful S.meaning) (t : Heap) (inv : 
           | inr x ↦ rw x (λ i. refl)
         ]
       where
-        calm_owner : (q2 : ℕ) → owner t (q / 256) ≡ Some q2
-            → Outcome S laws t.marks (get_or S.plan.condemned (q / 256) false) (q / 256) m k (owner t (q / 256)) (owner_of g' (q / 256)) → p ≡ q2
-        calm_owner q2 o (calm c e f wd) = (cc)
-        calm_owner q2 o (tidy c e f) = (cc)
-        calm_owner q2 o (wiped c e f wz) = (cc)
+        calm_owner : (q2 : ℕ) → owner t (q / 256) ≡ Some q2 → p ≡ q2
+        calm_owner q2 o = pool_same p q2 (owner t (q / 256)) (own_before (q / 256) p w) o
 
         by : Comes q → Stands q → AllFit Null (slots0 T q) (slots0 T q)
         by c s = go c.final
@@ -269,7 +274,7 @@ module _ (S : Start) (ok : Sound S) (laws : Lawful S.meaning) (t : Heap) (inv : 
             go : Final S t c.from q → AllFit Null (slots0 T q) (slots0 T q)
             go (stay e y) =
                 let o = inv.owned c.from c.obj.0 in
-                let z : p ≡ o.pool = calm_owner o.pool (rw e o.is) (out (q / 256)) in
+                let z : p ≡ o.pool = calm_owner o.pool (rw e o.is) in
                 let l = o.leaf (rw (← z) lf) in
                 rw s.reads
                 (λ i. null_next (get_or (slots0 S c.from) i (Number 0)) (get_or (slots_of (rd S m q)) i (Number 0)) (l i) (cleaned c.from q c.obj c.final i))
@@ -277,7 +282,7 @@ module _ (S : Start) (ok : Sound S) (laws : Lawful S.meaning) (t : Heap) (inv : 
                 let h = inv.copied c.from q c.obj.0 g in
                 elim (owner_cases (owner t (q / 256))) [
                   | inl z ↦ absurd (cell_used S ok (λ q. ⊥) t inv c.from q c.obj.0 (copy g) z)
-                  | inr z ↦ (let y = calm_owner z.0 z.1 (out (q / 256)) in
+                  | inr z ↦ (let y = calm_owner z.0 z.1 in
                       absurd (both_ways (leafy S z.0) (inv.fill.plain (q / 256) z.0 h.fresh z.1) (rw (← y) lf)))
                 ]
 
@@ -292,14 +297,6 @@ module _ (S : Start) (ok : Sound S) (laws : Lawful S.meaning) (t : Heap) (inv : 
 
     slots_are : (a l : ℕ) (ss : List Slot) → thing0 T a ≡ object l ss → slots0 T a ≡ ss
     slots_are a l ss e = ap slots_of e
-
-    own_before : (s p : ℕ) → owner_of g' s ≡ Some p → owner t s ≡ Some p
-    own_before s p e = go (out s)
-      where
-        go : Outcome S laws t.marks (get_or S.plan.condemned s false) s m k (owner t s) (owner_of g' s) → owner t s ≡ Some p
-        go (calm c f x wd) = sym f ∙ e
-        go (tidy c f x) = sym f ∙ e
-        go (wiped c f x wz) = (cc)
 
     pub arena_next : length k ≡ length m → length g'.owners ≡ 256 → SoundSpace M S.plan.classes T.space
     arena_next long many = record {

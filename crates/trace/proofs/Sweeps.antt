@@ -243,12 +243,6 @@ module _ (S : Start) (laws : Lawful S.meaning) where
 
   -- ---- the walk
 
-  loose_by : (ms : List ℕ) (a e n : ℕ) (h : Head) → bit ms a ≡ false → ((s : _) × ((h ≡ Object s) × (S.meaning.size s ≡ n))) ⊎ ((((to : ℕ) × (h ≡ Forwarded n to))) ⊎ (h ≡ Padding n))
-      → stand_by ms a e S.meaning h ≡ loose (a + n)
-  loose_by ms a e n h u (inl x) = ap (stand_by ms a e S.meaning) x.1.0 ∙ ap (λ (b : Bool). record { end = a + S.meaning.size x.0; is_kept = b }) u ∙ ap (λ (j : ℕ). loose (a + j)) x.1.1
-  loose_by ms a e n h u (inr (inl x)) = ap (stand_by ms a e S.meaning) x.1
-  loose_by ms a e n h u (inr (inr x)) = ap (stand_by ms a e S.meaning) x
-
   stood_loose : (ms : List ℕ) (m : List ℕ) (e a : ℕ) → Link S (rd S m a) → a + span S.meaning (rd S m a) ≤ e → bit ms a ≡ false → stood S.meaning m ms a e ≡ loose (a + span S.meaning (rd S m a))
   stood_loose ms m e a l h u = go (rd S m a) refl
     where

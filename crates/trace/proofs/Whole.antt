@@ -114,9 +114,8 @@ module _ (m : Meaning) (laws : Lawful m) where
     | inl h ↦ (let p = and_parts (leb a e) (leb e (length ws)) h in
         let l = leb-true a e p.0 in
         let k = leb-true e (length ws) p.1 in
-        ap length (cond-true (leb a e && leb e (length ws)) _ ws h)
-        ∙ length_put a (e - a) ws (pad_words m (part a (e - a) ws)) (omega arith) (padded_long (part a (e - a) ws) ∙ length-take-le (e - a) (drop a ws) (omega (arith, length-drop a ws))))
-    | inr h ↦ ap length (cond-false (leb a e && leb e (length ws)) _ ws h)
+        rw h (length_put a (e - a) ws (pad_words m (part a (e - a) ws)) (omega arith) (padded_long (part a (e - a) ws) ∙ length-take-le (e - a) (drop a ws) (omega (arith, length-drop a ws)))))
+    | inr h ↦ rw h refl
   ]
 
   buffers_long : (bs : List Buffer) (ws : List ℕ) (k : ℕ) → length (buffers_closed m bs ws k) ≡ length ws
