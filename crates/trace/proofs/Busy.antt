@@ -61,7 +61,7 @@ object_is : (S : Start) (m : List ℕ) (a p : ℕ) → Body S m a (rd S m p) →
 object_is S m a p b = rw b.shape refl
 
 object_not : (x : Thing) (n b : ℕ) → x ≡ forwarded n b → is_object x ≡ true → ⊥
-object_not x n b e h = (cc)
+object_not x n b e h = cc
 
 pub mark_falls : (S : Start) (t : Heap) (a : ℕ) → Std S a → stays S t a ≡ false → Body S t.words a (rd S t.words a) → (u : Heap) → u.words ≡ t.words
     → ((c : ℕ) → marked t c ≡ true → marked u c ≡ true) → ((c : ℕ) → grey u c ≡ true → (grey t c ≡ true) ⊎ (c ≡ a)) → pot S u ≤ pot S t

@@ -94,8 +94,7 @@ module _ (S : Start) (ok : Sound S) (laws : Lawful S.meaning) (Todo : ℕ → Ty
         owners = inv.ready.owners;
         targets = length-set t.state.targets p 0 ∙ inv.ready.targets;
         owned = λ q h. elim (same_or_none q) [
-          | inl e ↦ rw e
-              (inv.ready.owned q (rw (← e) h))
+          | inl e ↦ rw e (inv.ready.owned q (rw (← e) h))
           | inr e ↦ absurd (none_ahead q e.1 h)
         ];
       };

@@ -95,12 +95,10 @@ module _ (S : Start) (ok : Sound S) (Todo : ℕ → Type 0) (t : Heap) (inv : In
   apart' c p d q s r e f = go (cell_back c p s e) (cell_back d q r f)
     where
       new_left : (c p : ℕ) → c ≡ a → p ≡ b → Cell S t.words d q → Apart p (size0 S c) q (size0 S d)
-      new_left c p x y f =
-          rw (x, y) (apart_sym q (size0 S d) b (size0 S a) (from_new d q r f))
+      new_left c p x y f = rw (x, y) (apart_sym q (size0 S d) b (size0 S a) (from_new d q r f))
 
       new_right : (d q : ℕ) → d ≡ a → q ≡ b → Cell S t.words c p → Apart p (size0 S c) q (size0 S d)
-      new_right d q x y e =
-          rw (x, y) (from_new c p s e)
+      new_right d q x y e = rw (x, y) (from_new c p s e)
 
       go : ((c ≡ a) × (p ≡ b)) ⊎ Cell S t.words c p → ((d ≡ a) × (q ≡ b)) ⊎ Cell S t.words d q → ((c ≡ d) × (p ≡ q)) ⊎ Apart p (size0 S c) q (size0 S d)
       go (inl x) (inl y) = inl (x.0 ∙ sym y.0, x.1 ∙ sym y.1)

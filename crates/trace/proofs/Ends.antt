@@ -15,7 +15,7 @@ use Rattle.trace.proofs.Sweeps.{Chain, stop, link, Base, first, next, base_inv, 
 
 -- the two ways to say what a base is
 pub base_of : (S : Start) (m : List ℕ) (e k a q : ℕ) → is_base S.meaning m e k a q ≡ true → Base S m e a q
-base_of S m e zero a q h = (cc)
+base_of S m e zero a q h = cc
 base_of S m e (suc k) a q h =
     let c = base_cases (ltb a e) (eqb a q) (is_base S.meaning m e k (a + span S.meaning (rd S m a)) q) h in
     elim c.1 [

@@ -111,8 +111,7 @@ module _ (S : Start) where
   settled_grows t u g r v (settled s f) = settled s (final_grows t u g r v s.0 f)
 
   pub clean_grows : (t u : Heap) → Grows S t u → (a : ℕ) (x y : Thing) → y ≡ x → Clean S t a x → Clean S u a y
-  clean_grows t u g a x y e h =
-      rw e (λ i. fits_map (settled_grows t u g) (get_or (slots0 S a) i (Number 0)) (get_or (slots_of x) i (Number 0)) (h i))
+  clean_grows t u g a x y e h = rw e (λ i. fits_map (settled_grows t u g) (get_or (slots0 S a) i (Number 0)) (get_or (slots_of x) i (Number 0)) (h i))
 
   pub body_map : (m k : List ℕ) → ((a b : ℕ) → Std S a → Moved S m a b → Moved S k a b) → (a : ℕ) (x y : Thing) → y ≡ x → Body S m a x → Body S k a y
   body_map m k f a x y e h =
@@ -159,9 +158,9 @@ module _ (S : Start) where
       where
         go : Held S m a → Cell S m a p → Real S.meaning (rd S m p) (size0 S a)
         go (here b) (same e) = rw e (body_real m a (rd S m a) b)
-        go (here b) (copy e) = (cc)
+        go (here b) (copy e) = cc
         go (still w f) (same e) = rw e (real_padding S.meaning (rd S m a) (size0 S a) f)
-        go (still w f) (copy e) = (cc)
+        go (still w f) (copy e) = cc
         go (away q g b) (same e) = rw e (real_forwarded S.meaning (rd S m a) (size0 S a) q g)
         go (away q g b) (copy e) = rw (← same_address (rd S m a) (size0 S a) (size0 S a) q p g e) (body_real m a (rd S m q) b)
 

@@ -152,7 +152,7 @@ module _ (S : Start) (ok : Sound S) (Todo : ℕ → Type 0) (t : Heap) (inv : In
           let g : (b + size0 S a) / 256 ≡ b / 256 = omega arith in
           rw (y, g) fresh)
     ];
-    empty = λ s e. inv.fill.empty s (sym (onto.own_other s (λ z. (cc))) ∙ e);
+    empty = λ s e. inv.fill.empty s (sym (onto.own_other s (λ z. cc)) ∙ e);
     low = onto.own_other 0 (λ z. omega (arith, pl.low)) ∙ inv.fill.low;
     plain = λ s q e o. elim (cases_eq s (b / 256)) [
       | inl z ↦ rw (← pool_same p q (owner u (b / 256)) onto.own_same (rw (← z) o)) bare

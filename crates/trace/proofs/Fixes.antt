@@ -206,7 +206,7 @@ module _ (S : Start) (ok : Sound S) (laws : Lawful S.meaning) (Todo : ℕ → Ty
     pad_blank w e =
         effect.words w (λ k. (let h : 1 ≤ at % 256 = omega arith in
         let o = (inv.ready.owned p h).0 in
-        word_apart w at (rest at) (λ z. (cc)) (omega arith)))
+        word_apart w at (rest at) (λ z. cc) (omega arith)))
         ∙ inv.blank w e
 
     pub pad_inv : Inv S Todo rest_padded
@@ -320,14 +320,12 @@ module _ (S : Start) (ok : Sound S) (laws : Lawful S.meaning) (Todo : ℕ → Ty
     head_now = seen_object S.meaning laws t.words a (layout0 S a) (slots_of (rd S t.words a)) body.shape (limit_of a) (omega (arith, size_now t inv a oa gone body, ok.seg a sb))
 
     pub fix_unmoved : FixedBy (fate_of S.meaning S.plan t a)
-    fix_unmoved =
-        rw (sought_yes S ok t inv.long inv.ready.few a sb gone, head_now, size_now t inv a oa gone body) fix_owner
+    fix_unmoved = rw (sought_yes S ok t inv.long inv.ready.few a sb gone, head_now, size_now t inv a oa gone body) fix_owner
 
   -- what stays
   fix_stays : (t : Heap) → Inv S Todo t → (r v : ℕ) → stays S t v ≡ true → Settled S t r v → Fixed S Todo t r (fix_answer S.meaning S.plan t v) (fixed S.meaning S.plan t v)
   fix_stays t inv r v h s =
-      rw (sought_no S t v h)
-      (unchanged t inv r v s)
+      rw (sought_no S t v h) (unchanged t inv r v s)
 
   -- what has gone
   fix_gone : (t : Heap) → Inv S Todo t → (r b : ℕ) → Obj S r → stays S t r ≡ false → Moved S t.words r b → Fixed S Todo t r (fix_answer S.meaning S.plan t r) (fixed S.meaning S.plan t r)
@@ -343,7 +341,7 @@ module _ (S : Start) (ok : Sound S) (laws : Lawful S.meaning) (Todo : ℕ → Ty
     where
       go : stays S t r ≡ false → Held S t.words r → Fixed S Todo t r (fix_answer S.meaning S.plan t r) (fixed S.meaning S.plan t r)
       go h (here b) = fix_unmoved t inv r s h b
-      go h (still w f) = (cc)
+      go h (still w f) = cc
       go h (away b g k) = fix_gone t inv r b s h g
 
   pub fix_ok : (t : Heap) → Inv S Todo t → (r v : ℕ) → Names S t.words r v → Fixed S Todo t r (fix_answer S.meaning S.plan t v) (fixed S.meaning S.plan t v)

@@ -27,7 +27,7 @@ module _ (S : Start) (ok : Sound S) (Todo : ℕ → Type 0) (t : Heap) (inv : In
       go : Held S t.words a → placed_at a ≡ Some p
       go (here b) = rw (b.shape, left_by a s.0 h, e) refl
       go (away b g k) = absurd (both_ways (stays S t a) (inv.copied a b s.0 g).left h)
-      go (still w f) = (cc)
+      go (still w f) = cc
 
   pub is_fate : (a p : ℕ) → Obj S a → placed_at a ≡ Some p → Final S t a p
   is_fate a p s e = go (inv.held a s.0)
@@ -38,7 +38,7 @@ module _ (S : Start) (ok : Sound S) (Todo : ℕ → Type 0) (t : Heap) (inv : In
         | inr h ↦ (let f : None ≡ Some p = rw (b.shape, h) at e in absurd (cc))
       ]
       go (away b g k) = (let f : Some b ≡ Some p = rw g at e in let q : b ≡ p = cc in move (rw (← q) g))
-      go (still w f) = (cc)
+      go (still w f) = cc
 
   pub follows : (r q : ℕ) → Settled S t r q → Follows S.meaning S.plan t r q
   follows r q (empty e f) = inl (e, f)

@@ -242,8 +242,7 @@ module _ (m : Meaning) (laws : Lawful m) (h : Held) (pools : ℕ) (sa : SoundAre
           (
             (s.std, s.reads ∙ b.shape ∙ ap (λ (z : ℕ). object z (slots_of (rd S u.words p))) el),
             b.many ∙ ap length es,
-            λ i. rw (← es)
-                (slot_follows S ok Nil u inv_u (get_or (slots0 S a) i (Number 0)) (get_or (slots_of (rd S u.words p)) i (Number 0)) (c i)),
+            λ i. rw (← es) (slot_follows S ok Nil u inv_u (get_or (slots0 S a) i (Number 0)) (get_or (slots_of (rd S u.words p)) i (Number 0)) (c i)),
           ),
         );
     only = λ p o.
@@ -308,12 +307,10 @@ module _ (m : Meaning) (laws : Lawful m) (h : Held) (pools : ℕ) (sa : SoundAre
   Kept x g = SoundArena m (ended (held_aged h pools) x g) × Keeps m y (closed_space m h) x.heap (space g.words g.segments) h.arena.ambiguous h.arena.registers x.roots
 
   kept_before : Kept (before_sweep m y h) (after_sweep m y (before_sweep m y h))
-  kept_before =
-      rw (traced_steps m y h.arena.ambiguous (begun m h), swept_all m y v.marks (ground v.state.segments v.words)) (sound_by_v, kept_by_v)
+  kept_before = rw (traced_steps m y h.arena.ambiguous (begun m h), swept_all m y v.marks (ground v.state.segments v.words)) (sound_by_v, kept_by_v)
 
   pub performed_keeps : KeptBy m y h (performed m y (held_aged h pools)).after
   performed_keeps = kept_before
 
 pub collections_keep : CollectionsKeep
-collections_keep m laws h pools sa f c =
-    rw (f, c) (performed_keeps m laws h pools sa)
+collections_keep m laws h pools sa f c = rw (f, c) (performed_keeps m laws h pools sa)

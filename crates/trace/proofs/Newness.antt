@@ -19,8 +19,7 @@ nowhere m ws = elim (cases_Bool (leb 0 0 && leb 0 (length ws))) [ inl e ↦ rw e
 -- no buffer has words
 none_closed : (m : Meaning) (ws : List ℕ) (k : ℕ) → buffers_closed m (replicate 8 no_buffer) ws k ≡ ws
 none_closed m ws zero = refl
-none_closed m ws (suc k) =
-    rw (get_or_all 8 k no_buffer) (nowhere m (buffers_closed m (replicate 8 no_buffer) ws k) ∙ none_closed m ws k)
+none_closed m ws (suc k) = rw (get_or_all 8 k no_buffer) (nowhere m (buffers_closed m (replicate 8 no_buffer) ws k) ∙ none_closed m ws k)
 
 pub unclosed : (m : Meaning) (ws : List ℕ) → all_buffers_closed m (replicate 8 no_buffer) ws ≡ ws
 unfolding all_buffers_closed

@@ -21,7 +21,7 @@ final_body S Todo t inv a p s f = go (inv.held a s.0) f
     go (here h) (stay e k) = rw e h
     go (here h) (move g) = absurd (unmoved S t.words a a p h g refl)
     go (away b g h) (stay e k) = absurd (both_ways (stays S t a) (inv.copied a b s.0 g).left k)
-    go (still w e) f = (cc)
+    go (still w e) f = cc
     go (away b g h) (move f) = rw (← same_address (rd S t.words a) (size0 S a) (size0 S a) b p g f) h
 
 pub inv_todo : (S : Start) (Todo Next : ℕ → Type 0) (t : Heap) → Inv S Todo t

@@ -62,7 +62,7 @@ pub record Within (M : Meaning) (m : List ℕ) (a e q : ℕ) : Type 0 where
 
 module _ (M : Meaning) (laws : Lawful M) (m : List ℕ) (e : ℕ) where
   pub in_row : (k a q : ℕ) → Row M m e a → is_base M m e k a q ≡ true → Within M m a e q
-  in_row zero a q r h = (cc)
+  in_row zero a q r h = cc
   in_row (suc k) a q ends h =
       let c = base_cases (ltb e e) (eqb e q) (is_base M m e k (e + span M (thing_at M m e)) q) h in
       absurd (omega (arith, ltb-true e e c.0))
@@ -74,7 +74,7 @@ module _ (M : Meaning) (laws : Lawful M) (m : List ℕ) (e : ℕ) where
       ]
 
   pub row_apart : (k a p q : ℕ) → Row M m e a → is_base M m e k a p ≡ true → is_base M m e k a q ≡ true → (p ≡ q) ⊎ Apart p (span M (thing_at M m p)) q (span M (thing_at M m q))
-  row_apart zero a p q r h g = (cc)
+  row_apart zero a p q r h g = cc
   row_apart (suc k) a p q ends h g =
       let c = base_cases (ltb e e) (eqb e q) (is_base M m e k (e + span M (thing_at M m e)) q) g in
       absurd (omega (arith, ltb-true e e c.0))
@@ -95,7 +95,7 @@ module _ (M : Meaning) (laws : Lawful M) (m : List ℕ) (e : ℕ) where
       ]
 
 pub owner_is : (o : Owner) → is_owned o ≡ true → (p : ℕ) × (o ≡ Some p)
-owner_is None h = (cc)
+owner_is None h = cc
 owner_is (Some p) h = (p, refl)
 
 pub self_object : (x : Thing) (l : ℕ) (ss : List Slot) → x ≡ object l ss → x ≡ object (layout_of x) (slots_of x)

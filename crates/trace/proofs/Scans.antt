@@ -52,8 +52,7 @@ module _ (S : Start) (ok : Sound S) (laws : Lawful S.meaning) (Todo : ℕ → Ty
   settled_names t r v (settled s f) = names s (final_cell S t r v f)
 
   done_keeps : (t u : Heap) (i : ℕ) → Final S t a p → Grows S t u → Keeps S t u → Done S t a p i → Done S u a p i
-  done_keeps t u i f g k d j h =
-      rw (k a p sa f) (fits_map (settled_grows S t u g) (get_or (slots0 S a) j (Number 0)) (slot_at S t.words p j) (d j h))
+  done_keeps t u i f g k d j h = rw (k a p sa f) (fits_map (settled_grows S t u g) (get_or (slots0 S a) j (Number 0)) (slot_at S t.words p j) (d j h))
 
   done_more : (t : Heap) (i : ℕ) → Done S t a p i → Fits (Settled S t) (get_or (slots0 S a) i (Number 0)) (slot_at S t.words p i) → Done S t a p (suc i)
   done_more t i d h j l = elim (cases_eq j i) [
@@ -94,8 +93,7 @@ module _ (S : Start) (ok : Sound S) (laws : Lawful S.meaning) (Todo : ℕ → Ty
       k = rewritten (S.meaning.with_slot sh i (Reference q)) p (size0 S a) u.words
 
       pt : Putting S u.words k p (size0 S a) i (Reference q)
-      pt =
-          rw (← size_is, ← sh_now) (putting S laws u.words p (layout0 S a) (slots_of (rd S u.words p)) body'.shape i (Reference q) inside' may)
+      pt = rw (← size_is, ← sh_now) (putting S laws u.words p (layout0 S a) (slots_of (rd S u.words p)) body'.shape i (Reference q) inside' may)
 
       fits : Fits (Names S u.words) (get_or (slots0 S a) i (Number 0)) (Reference q)
       fits = rw was (settled_names u r q fx.settled)
@@ -138,8 +136,7 @@ module _ (S : Start) (ok : Sound S) (laws : Lawful S.meaning) (Todo : ℕ → Ty
 
     pub slot_ok : Scanning S Todo t a p (suc i) (slot_fixed S.meaning S.plan t p (size0 S a) sh i)
     slot_ok =
-        rw slot_now
-        (one_slot (get_or (slots0 S a) i (Number 0)) (slot_at S t.words p i) refl refl (body.names i))
+        rw slot_now (one_slot (get_or (slots0 S a) i (Number 0)) (slot_at S t.words p i) refl refl (body.names i))
 
   pub slots_ok : (k : ℕ) (t : Heap) → Inv S Todo t → k ≤ length (slots0 S a) → Final S t a p → Scanning S Todo t a p k (slots_fixed S.meaning S.plan t p (size0 S a) sh k)
   slots_ok zero t inv l f = record { inv = inv; grows = grows_refl S t; falls = omega arith; done = λ j h. absurd (omega arith) }

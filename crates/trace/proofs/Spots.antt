@@ -78,7 +78,7 @@ module _ (S : Start) (t : Heap) (ready : Ready S t) (p b : ℕ) (spot : Spot t p
   -- after the copy
   module _ (u : Heap) (long : length u.words ≡ length t.words) (on : Onto t u p b n) where
     not_ours : (s : ℕ) → owner u s ≡ None → s ≢ b / 256
-    not_ours s e f = (cc)
+    not_ours s e f = cc
 
     -- a segment in use keeps its owner
     pub owner_onto : (s : ℕ) → owner t s ≢ None → owner u s ≡ owner t s

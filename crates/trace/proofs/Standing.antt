@@ -23,10 +23,10 @@ use Rattle.trace.proofs.Tidying.{Outcome, calm, tidy, wiped}
 use Rattle.trace.proofs.Ends.{base_of, of_base, Built, built, chain_now, base_now, base_then}
 
 pub object_of : (x : Thing) → is_object x ≡ true → x ≡ object (layout_of x) (slots_of x)
-object_of nothing h = (cc)
+object_of nothing h = cc
 object_of (object l ss) h = refl
-object_of (forwarded n b) h = (cc)
-object_of (padding n) h = (cc)
+object_of (forwarded n b) h = cc
+object_of (padding n) h = cc
 
 pub of_object : (x : Thing) (l : ℕ) (ss : List Slot) → x ≡ object l ss → is_object x ≡ true
 of_object x l ss e = ap is_object e
@@ -91,7 +91,7 @@ module _ (S : Start) (ok : Sound S) (laws : Lawful S.meaning) (t : Heap) (inv : 
       go : Outcome S laws t.marks (get_or S.plan.condemned s false) s m k (owner t s) (owner_of g' s) → Row M k (s * 256 + 256) (s * 256)
       go (calm c e f wd) = row_after S laws m k (s * 256 + 256) (s * 256) f (s * 256) (omega arith) (before c (sym e ∙ o))
       go (tidy c e f) = f.row
-      go (wiped c e f wz) = (cc)
+      go (wiped c e f wz) = cc
 
   std_next : (q s p : ℕ) → q / 256 ≡ s → owner_of g' s ≡ Some p → Base S k (s * 256 + 256) (s * 256) q → Std T q
   std_next q s p z o b =
@@ -197,13 +197,13 @@ module _ (S : Start) (ok : Sound S) (laws : Lawful S.meaning) (t : Heap) (inv : 
           ]
         where
           no_pad : Held S m q → thing0 S q ≡ padding (size0 S q) → is_object (rd S m q) ≡ true → ⊥
-          no_pad (here b) x i = (cc)
-          no_pad (away d g b) x i = (cc)
+          no_pad (here b) x i = cc
+          no_pad (away d g b) x i = cc
           no_pad (still w f) x i = both_ways (is_object (rd S m q)) (ap is_object f) i
 
       go : (p : ℕ) → owner_of g' (q / 256) ≡ Some p → Base S k (q / 256 * 256 + 256) (q / 256 * 256) q → is_object (rd S k q) ≡ true
           → Outcome S laws t.marks (get_or S.plan.condemned (q / 256) false) (q / 256) m k (owner t (q / 256)) (owner_of g' (q / 256)) → Comes q
-      go p w b i (wiped c e f wz) = (cc)
+      go p w b i (wiped c e f wz) = cc
       go p w b i (tidy c e f) =
           let x = f.old q b i in
           record { from = q; obj = inv.marked q x.0; final = stay refl (stays_by_mark S t q x.0) }
@@ -226,7 +226,7 @@ module _ (S : Start) (ok : Sound S) (laws : Lawful S.meaning) (t : Heap) (inv : 
       go : Outcome S laws t.marks (get_or S.plan.condemned s false) s m k (owner t s) (owner_of g' s) → owner t s ≡ Some p
       go (calm c f x wd) = sym f ∙ e
       go (tidy c f x) = sym f ∙ e
-      go (wiped c f x wz) = (cc)
+      go (wiped c f x wz) = cc
 
   module _ (white : (p : ℕ) → grey t p ≡ false) where
     pub cleaned : (a p : ℕ) → Obj S a → Final S t a p → Clean S t a (rd S m p)
@@ -246,8 +246,7 @@ module _ (S : Start) (ok : Sound S) (laws : Lawful S.meaning) (t : Heap) (inv : 
     refs_next q o i =
         let c = comes q o in
         let s = final_stands c.from q c.obj c.final in
-        rw s.reads
-        (fits_next (get_or (slots0 S c.from) i (Number 0)) (get_or (slots_of (rd S m q)) i (Number 0)) (cleaned c.from q c.obj c.final i))
+        rw s.reads (fits_next (get_or (slots0 S c.from) i (Number 0)) (get_or (slots_of (rd S m q)) i (Number 0)) (cleaned c.from q c.obj c.final i))
 
     null_next : (x y : Slot) → Fits Null x x → Fits (Settled S t) x y → Fits Null y y
     null_next (Number v) (Number w) n h = refl
@@ -276,8 +275,7 @@ module _ (S : Start) (ok : Sound S) (laws : Lawful S.meaning) (t : Heap) (inv : 
                 let o = inv.owned c.from c.obj.0 in
                 let z : p ≡ o.pool = calm_owner o.pool (rw e o.is) in
                 let l = o.leaf (rw (← z) lf) in
-                rw s.reads
-                (λ i. null_next (get_or (slots0 S c.from) i (Number 0)) (get_or (slots_of (rd S m q)) i (Number 0)) (l i) (cleaned c.from q c.obj c.final i))
+                rw s.reads (λ i. null_next (get_or (slots0 S c.from) i (Number 0)) (get_or (slots_of (rd S m q)) i (Number 0)) (l i) (cleaned c.from q c.obj c.final i))
             go (move g) =
                 let h = inv.copied c.from q c.obj.0 g in
                 elim (owner_cases (owner t (q / 256))) [

@@ -137,7 +137,7 @@ module _ (S : Start) (laws : Lawful S.meaning) where
       subst (λ (x : ℕ). Padded S laws m (pad g x m) g (a - g)) z (pad_effect S laws m g (a - g) small (λ _. omega arith))
 
   not_padding : (x : Thing) (n : ℕ) → x ≡ padding n → is_object x ≡ true → ⊥
-  not_padding x n e h = (cc)
+  not_padding x n e h = cc
 
   -- before a gap of padding, a row
   gap_row : (k : List ℕ) (e g a : ℕ) → g ≤ a → a ≤ e → (g < a → rd S k g ≡ padding (a - g)) → Row S.meaning k e a → Row S.meaning k e g
@@ -248,12 +248,9 @@ module _ (S : Start) (laws : Lawful S.meaning) where
     where
       go : (x : Thing) → rd S m a ≡ x → stood S.meaning m ms a e ≡ loose (a + span S.meaning (rd S m a))
       go nothing f = absurd (l.real f)
-      go (object ly ss) f =
-          rw (seen_object S.meaning laws m a ly ss f e (rw f at h), u, f) refl
-      go (forwarded k to) f =
-          rw (seen_forwarded S.meaning laws m a e k (rw f at h) to f, f) refl
-      go (padding k) f =
-          rw (seen_padding S.meaning laws m a e k (rw f at h) f, f) refl
+      go (object ly ss) f = rw (seen_object S.meaning laws m a ly ss f e (rw f at h), u, f) refl
+      go (forwarded k to) f = rw (seen_forwarded S.meaning laws m a e k (rw f at h) to f, f) refl
+      go (padding k) f = rw (seen_padding S.meaning laws m a e k (rw f at h) f, f) refl
 
   stood_kept : (ms : List ℕ) (m : List ℕ) (e a : ℕ) → rd S m a ≡ object (layout_of (rd S m a)) (slots_of (rd S m a)) → a + span S.meaning (rd S m a) ≤ e → bit ms a ≡ true
       → stood S.meaning m ms a e ≡ kept (a + span S.meaning (rd S m a))
@@ -287,8 +284,7 @@ module _ (S : Start) (laws : Lawful S.meaning) where
       → ((q : ℕ) → Base S m e a q → bit ms q ≡ true → rd S m q ≡ object (layout_of (rd S m q)) (slots_of (rd S m q)))
       → Walked ms e g a m (walk ms e k (sweep_row m g) a)
   sweep_ok ms e zero g a m fuel l small f stop ob = walk_end ms e g m l small f
-  sweep_ok ms e (suc k) g a m fuel l small f stop ob =
-      rw (le-ltb e e (omega arith)) (walk_end ms e g m l small f)
+  sweep_ok ms e (suc k) g a m fuel l small f stop ob = rw (le-ltb e e (omega arith)) (walk_end ms e g m l small f)
   sweep_ok ms e zero g a m fuel l small f (link b n h r) ob = absurd (omega (arith, n.some))
   sweep_ok ms e (suc k) g a m fuel l small f (link b n h r) ob =
       go (λ x. sweep_ok ms e k g (a + span S.meaning (rd S m a)) m (omega (arith, n.some)) (omega arith) small f r (λ q y. ob q (next a q low y)))

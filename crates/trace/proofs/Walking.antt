@@ -46,8 +46,8 @@ module _ (S : Start) (ok : Sound S) (laws : Lawful S.meaning) where
   scan_padding Todo t inv a s e = go (inv.held a s)
     where
       go : Held S t.words a → scanned M S.plan t a ≡ t
-      go (here b) = (cc)
-      go (away b g h) = (cc)
+      go (here b) = cc
+      go (away b g h) = cc
       go (still w f) =
           let i = ok.inside a s in
           rw (le-ltb 65535 a (omega (arith, inv.ready.few, inv.long)), le-ltb (length t.words) (limit_of a) (omega (arith, inv.long)), seen_padding M laws t.words a (limit_of a) (size0 S a) (omega (arith, ok.seg a s)) f) refl
@@ -110,15 +110,15 @@ module _ (S : Start) (ok : Sound S) (laws : Lawful S.meaning) where
   Scanned k q = (j : ℕ) → j < k → to_scan j ≡ true → is_base M m (j * 256 + 256) 256 (j * 256) q ≡ false
 
   to_scan_is : (c : Bool) (o : Owner) → (not c && refers S.plan.classes o) ≡ true → ((p : ℕ) × (o ≡ Some p)) × (c ≡ false)
-  to_scan_is true o h = (cc)
-  to_scan_is false None h = (cc)
+  to_scan_is true o h = cc
+  to_scan_is false None h = cc
   to_scan_is false (Some p) h = ((p, refl), refl)
 
   scan_segment_ok : Rowed → (Todo : ℕ → Type 0) → ((q : ℕ) → Todo q → Obj S q) → (s : ℕ) (t : Heap) → Inv S Todo t
       → Went S (λ q. Todo q × (to_scan s ≡ true → is_base M m (s * 256 + 256) 256 (s * 256) q ≡ false)) t (segment_scanned M S.plan S.space.segments t s)
   scan_segment_ok rows Todo sub s t inv = elim (cases_Bool (to_scan s)) [
     | inr e ↦ subst (Went S (λ q. Todo q × (to_scan s ≡ true → is_base M m (s * 256 + 256) 256 (s * 256) q ≡ false)) t) (sym (cond-false (to_scan s) _ t e))
-        (record { grows = grows_refl S t; inv = inv_todo S Todo (λ q. Todo q × (to_scan s ≡ true → is_base M m (s * 256 + 256) 256 (s * 256) q ≡ false)) t inv (λ x q g f d. inl (d, λ z. (cc))) })
+        (record { grows = grows_refl S t; inv = inv_todo S Todo (λ q. Todo q × (to_scan s ≡ true → is_base M m (s * 256 + 256) 256 (s * 256) q ≡ false)) t inv (λ x q g f d. inl (d, λ z. cc)) })
     | inl e ↦ (let k = to_scan_is (get_or S.plan.condemned s false) (owner0 S s) e in
         let r = rows s k.0.0 k.0.1 in
         let w = scan_row_ok (s * 256 + 256) s 256 Todo sub (s * 256) t r.0 r.1 k.1 inv in
@@ -174,8 +174,7 @@ module _ (S : Start) (ok : Sound S) (laws : Lawful S.meaning) where
       go (here b) =
           let z = body_size S ok t.words a (rd S t.words a) b in
           let w = nail_ok S ok laws Todo t inv a (s, b.was) b in
-          rw (seen_object M laws t.words a (layout0 S a) (slots_of (rd S t.words a)) b.shape e (omega arith))
-          (record { inv = w.inv; grows = w.grows; words = refl })
+          rw (seen_object M laws t.words a (layout0 S a) (slots_of (rd S t.words a)) b.shape e (omega arith)) (record { inv = w.inv; grows = w.grows; words = refl })
       go (away d g h) = rw (seen_forwarded M laws t.words a e (size0 S a) l d g) (nails_none Todo t inv)
       go (still w f) = rw (seen_padding M laws t.words a e (size0 S a) l f) (nails_none Todo t inv)
 
@@ -184,8 +183,7 @@ module _ (S : Start) (ok : Sound S) (laws : Lawful S.meaning) where
 
   point_step : (Todo : ℕ → Type 0) (t : Heap) → Inv S Todo t → (e w k a : ℕ) → a < e → Std S a → a + size0 S a ≤ e
       → point t e w (suc k) a ≡ cond (ltb w (a + size0 S a)) (base_of (head_of t.words e a) a) (point t e w k (a + size0 S a))
-  point_step Todo t inv e w k a low s l =
-      rw (lt-ltb a e low, end_is Todo t inv e a s l) refl
+  point_step Todo t inv e w k a low s l = rw (lt-ltb a e low, end_is Todo t inv e a s l) refl
 
   nail_row_ok : (e w k : ℕ) (Todo : ℕ → Type 0) (t : Heap) (a : ℕ) → Row M m e a → ((q : ℕ) → is_base M m e k a q ≡ true → Std S q) → Inv S Todo t → Nails Todo t (nailed_at t (point t e w k a))
   nail_row_ok e w zero Todo t a r h inv = nails_none Todo t inv
@@ -202,7 +200,7 @@ module _ (S : Start) (ok : Sound S) (laws : Lawful S.meaning) where
   -- the object into which w points is found
   nail_row_finds : (e w k : ℕ) (Todo : ℕ → Type 0) (t : Heap) (a q : ℕ) → t.words ≡ m → Row M m e a → ((q : ℕ) → is_base M m e k a q ≡ true → Std S q) → Inv S Todo t
       → is_base M m e k a q ≡ true → Obj S q → q ≤ w → w < q + size0 S q → point t e w k a ≡ Some q
-  nail_row_finds e w zero Todo t a q f r h inv b o bot hi = (cc)
+  nail_row_finds e w zero Todo t a q f r h inv b o bot hi = cc
   nail_row_finds e w (suc k) Todo t a q f ends h inv b o bot hi =
       let c = base_cases (ltb e e) (eqb e q) (is_base M m e k (e + size0 S e) q) b in
       absurd (omega (arith, ltb-true e e c.0))
@@ -272,8 +270,7 @@ module _ (S : Start) (ok : Sound S) (laws : Lawful S.meaning) where
         let r = rows (q / 256) u.0 u.1 in
         let p : point t (w / 256 * 256 + 256) w 256 (w / 256 * 256) ≡ Some q =
         rw z (nail_row_finds (q / 256 * 256 + 256) w 256 Todo t (q / 256 * 256) q f r.0 (λ v h. (r.1 v h).0) inv b o bot hi) in
-        rw (e, nail_is t w ∙ p)
-        ((laws_of t.marks).set_same q (omega (arith, i, inv.ready.marks, inv.ready.few, inv.long, ok.some q o.0)))
+        rw (e, nail_is t w ∙ p) ((laws_of t.marks).set_same q (omega (arith, i, inv.ready.marks, inv.ready.few, inv.long, ok.some q o.0)))
 
     pub nail_marks : (ws : List ℕ) (t : Heap) → Inv S Todo t → t.words ≡ m → (k i q : ℕ) → i < k → Obj S q → is_base M m (q / 256 * 256 + 256) 256 (q / 256 * 256) q ≡ true → condemns S.plan q ≡ true
         → q ≤ get_or ws i 0 → get_or ws i 0 < q + size0 S q → marked (all_nailed M S.plan ws t k) q ≡ true
