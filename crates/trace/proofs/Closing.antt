@@ -56,7 +56,7 @@ module _ (S : Start) (ok : Sound S) (laws : Lawful S.meaning) (Todo : ℕ → Ty
       ends = inr (
         λ h y. none_ahead q z h,
         elim f.ends [
-          | inl x ↦ (let tq : target t q ≡ target t p = ap (target t) e in
+          | inl x ↦ (let tq : target t q ≡ target t p = rw e refl in
               let h : 1 ≤ target t p % 256 = rw (← tq) x.0 in
               let g : target t p / 256 ≡ s = rw (← tq) x.1 in
               let ff : target t p ≡ f.front = sym tq ∙ sym x.2 in
@@ -142,7 +142,7 @@ module _ (S : Start) (ok : Sound S) (laws : Lawful S.meaning) (Todo : ℕ → Ty
   given_none ts zero q l = omega arith
   given_none ts (suc k) q l = elim (cases_eq q k) [
     | inl e ↦ elim (dec_lt k (length (given_up ts k))) [
-      | yes h ↦ ap (λ (x : ℕ). get_or (set (given_up ts k) k 0) x 0) e ∙ get_or-set_same (given_up ts k) k 0 0 h
+      | yes h ↦ rw e (get_or-set_same (given_up ts k) k 0 0 h)
       | no h ↦ get_or_past (set (given_up ts k) k 0) q 0 (omega (arith, length-set (given_up ts k) k 0))
     ]
     | inr n ↦ get_or-set_other (given_up ts k) k q 0 0 n ∙ given_none ts k q (omega arith)

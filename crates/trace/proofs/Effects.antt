@@ -51,7 +51,7 @@ module _ (S : Start) (laws : Lawful S.meaning) where
   pad_effect ws a n h l = elim (cases_lt 0 n) [
     | inl p ↦ some p
     | inr p ↦ (let z : a + n ≡ a = omega arith in
-        let e : padded_part m a (a + n) ws ≡ ws = ap (λ (x : ℕ). padded_part m a x ws) z ∙ pad_none ws a in
+        let e : padded_part m a (a + n) ws ≡ ws = rw z (pad_none ws a) in
         record { long = ap length e; words = λ w x. ap (λ (k : List ℕ). get_or k w 0) e; others = λ q j r x. ap (λ (k : List ℕ). rd S k q) e; reads = λ o. absurd (omega arith) })
   ]
     where

@@ -63,7 +63,7 @@ module _ (S : Start) (ok : Sound S) (laws : Lawful S.meaning) (Todo : ℕ → Ty
         go : (f.front ≡ s * 256 + 256) ⊎ (rd S t.words f.front ≡ padding (s * 256 + 256 - f.front)) → Built f.front
         go (inl y) = full y
         go (inr y) = elim (dec_lt f.front e) [
-          | yes l ↦ (let sp : span S.meaning (rd S t.words f.front) ≡ s * 256 + 256 - f.front = ap (span S.meaning) y in
+          | yes l ↦ (let sp : span S.meaning (rd S t.words f.front) ≡ s * 256 + 256 - f.front = rw y refl in
               let fin : f.front + span S.meaning (rd S t.words f.front) ≡ e = omega arith in
               record {
                 row = piece f.front (padding_piece (rd S t.words f.front) (s * 256 + 256 - f.front) y) (omega arith) (rw fin ends);

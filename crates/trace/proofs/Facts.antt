@@ -26,13 +26,13 @@ pub record Real (M : Meaning) (x : Thing) (k : ℕ) : Type 0 where
   pub span : span M x ≡ k
 
 pub real_object : (M : Meaning) (x : Thing) (l : ℕ) (ss : List Slot) → x ≡ object l ss → Real M x (M.size (shape l (length ss)))
-real_object M x l ss e = record { real = λ f. (cc); span = ap (span M) e }
+real_object M x l ss e = record { real = λ f. (cc); span = rw e refl }
 
 pub real_forwarded : (M : Meaning) (x : Thing) (n b : ℕ) → x ≡ forwarded n b → Real M x n
-real_forwarded M x n b e = record { real = λ f. (cc); span = ap (span M) e }
+real_forwarded M x n b e = record { real = λ f. (cc); span = rw e refl }
 
 pub real_padding : (M : Meaning) (x : Thing) (n : ℕ) → x ≡ padding n → Real M x n
-real_padding M x n e = record { real = λ f. (cc); span = ap (span M) e }
+real_padding M x n e = record { real = λ f. (cc); span = rw e refl }
 
 pub object_not_padding : (x : Thing) (l n : ℕ) (ss : List Slot) → x ≡ object l ss → x ≡ padding n → ⊥
 object_not_padding x l n ss e f = cc
@@ -139,8 +139,8 @@ module _ (S : Start) where
     pub body_real : (m : List ℕ) (a : ℕ) (x : Thing) → Body S m a x → Real S.meaning x (size0 S a)
     body_real m a x h =
         let r = real_object S.meaning x (layout0 S a) (slots_of x) h.shape in
-        let e : S.meaning.size (shape (layout0 S a) (length (slots_of x))) ≡ S.meaning.size (shape (layout0 S a) (length (slots0 S a))) = ap (λ (n : ℕ). S.meaning.size (shape (layout0 S a) n)) h.many in
-        let o : size0 S a ≡ S.meaning.size (shape (layout0 S a) (length (slots0 S a))) = ap (span S.meaning) h.was in
+        let e : S.meaning.size (shape (layout0 S a) (length (slots_of x))) ≡ S.meaning.size (shape (layout0 S a) (length (slots0 S a))) = rw h.many refl in
+        let o : size0 S a ≡ S.meaning.size (shape (layout0 S a) (length (slots0 S a))) = rw h.was refl in
         record { real = r.real; span = r.span ∙ e ∙ sym o }
 
     -- two objects are not in one place

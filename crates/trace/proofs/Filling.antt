@@ -126,7 +126,7 @@ module _ (S : Start) (ok : Sound S) (Todo : ℕ → Type 0) (t : Heap) (inv : In
 
       not_here : q ≡ p → 1 ≤ target u q % 256 → target u q / 256 ≡ s → ⊥
       not_here z h y =
-          let w : target u q ≡ b + size0 S a = ap (λ (x : ℕ). target u x) z ∙ onto.aim in
+          let w : target u q ≡ b + size0 S a = rw z onto.aim in
           ne (omega arith)
 
       ours : q ≡ p → Ends t.words t → Ends k u
@@ -147,7 +147,7 @@ module _ (S : Start) (ok : Sound S) (Todo : ℕ → Type 0) (t : Heap) (inv : In
     ];
     aims = λ q h. elim (cases_eq q p) [
       | inr n ↦ (let x = onto.aims q n in rw x (inv.fill.aims q (rw (← x) h)))
-      | inl e ↦ (let y : target u q ≡ b + size0 S a = ap (target u) e ∙ onto.aim in
+      | inl e ↦ (let y : target u q ≡ b + size0 S a = rw e onto.aim in
           let h' : 1 ≤ (b + size0 S a) % 256 = rw (← y) h in
           let g : (b + size0 S a) / 256 ≡ b / 256 = omega arith in
           rw (y, g) fresh)

@@ -58,7 +58,7 @@ Pads S t k = (s p f : ℕ) → owner0 S s ≡ None → owner t s ≡ Some p → 
 module _ (S : Start) (t : Heap) (k : List ℕ) (long : length k ≡ length t.words) where
   pub ready_put : Ready S t → Ready S (put_words t k)
   ready_put r = record {
-    whole = ap (λ (n : ℕ). n % 256) long ∙ r.whole;
+    whole = rw long r.whole;
     few = omega (arith, long, r.few);
     owned = λ p h. let o = r.owned p h in (o.0, omega (arith, long, o.1), o.2, o.3);
     unused = r.unused;
@@ -225,7 +225,7 @@ module _ (S : Start) (ok : Sound S) (Todo : ℕ → Type 0) (t : Heap) (inv : In
       go (same q) = seg_apart f (s * 256 + 256 - f) p (size0 S a) (λ z. ok.used a sa (rw (← from z) e)) (omega arith) (rw q (ok.seg a sa))
         where
           from : f / 256 ≡ p / 256 → s ≡ a / 256
-          from z = let y : p / 256 ≡ a / 256 = ap (λ (v : ℕ). v / 256) q in omega arith
+          from z = let y : p / 256 ≡ a / 256 = rw q refl in omega arith
       go (copy g) = elim (cases_eq (p / 256) s) [
         | inl z ↦ inr (below a p sa g z)
         | inr n ↦ seg_apart f (s * 256 + 256 - f) p (size0 S a) (λ z. n (omega arith)) (omega arith) (inv.copied a p sa g).seg

@@ -186,7 +186,7 @@ module _ (S : Start) (laws : Lawful S.meaning) (ar : SoundSpace S.meaning S.plan
 
   module _ (t : Heap) (fr : Fresh t) where
     own : (s : ℕ) → owner t s ≡ owner0 S s
-    own s = ap (λ g. owner_of g s) fr.segments
+    own s = rw fr.segments refl
 
     no_aim : (p : ℕ) → 1 ≤ target t p % 256 → ⊥
     no_aim p h = let z = fr.aims p in omega arith
@@ -246,13 +246,13 @@ module _ (S : Start) (laws : Lawful S.meaning) (ar : SoundSpace S.meaning S.plan
     begins = record {
       long = ap length fr.words;
       ready = record {
-        whole = ap (λ (k : List ℕ). length k % 256) fr.words ∙ ar.whole.0;
+        whole = rw fr.words ar.whole.0;
         few = rw fr.words ar.whole.1;
         owned = λ p h. absurd (no_aim p h);
         unused = λ s e. fr.safe s (sym (own s) ∙ e);
         marks = fr.marks ∙ sym (ap length fr.words);
         greys = fr.greys ∙ sym (ap length fr.words);
-        owners = ap (λ g. length g.owners) fr.segments ∙ ar.owners;
+        owners = rw fr.segments ar.owners;
         targets = fr.targets;
       };
       owned = owned_at;

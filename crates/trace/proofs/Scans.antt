@@ -80,7 +80,7 @@ module _ (S : Start) (ok : Sound S) (laws : Lawful S.meaning) (Todo : ℕ → Ty
       inside' = rw body'.many inside
 
       sh_now : shape (layout0 S a) (length (slots_of (rd S u.words p))) ≡ sh
-      sh_now = ap (shape (layout0 S a)) body'.many
+      sh_now = rw body'.many refl
 
       may : holds S.meaning (shape (layout0 S a) (length (slots_of (rd S u.words p)))) i (Reference q) ≡ true
       may =

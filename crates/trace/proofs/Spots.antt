@@ -90,14 +90,14 @@ module _ (S : Start) (t : Heap) (ready : Ready S t) (p b : ℕ) (spot : Spot t p
 
     pub ready_onto : length u.marks ≡ length t.marks → length u.greys ≡ length t.greys → length u.state.segments.owners ≡ 256 → length u.state.targets ≡ 8 → Ready S u
     ready_onto ml gl ol tl = record {
-      whole = ap (λ (x : ℕ). x % 256) long ∙ ready.whole;
+      whole = rw long ready.whole;
       few = omega (arith, long, ready.few);
       owned = λ q h. elim (cases_eq q p) [
         | inr ne ↦ (let c = on.aims q ne in
             let g : 1 ≤ target t q % 256 = rw (← c) h in
             let k = ready.owned q g in
             rw c (on.own_other (target t q / 256) (placed.others q ne g) ∙ k.0, omega (arith, long, k.1), k.2, k.3))
-        | inl e ↦ (let y : target u q ≡ b + n = ap (target u) e ∙ on.aim in
+        | inl e ↦ (let y : target u q ≡ b + n = rw e on.aim in
             let h' : 1 ≤ (b + n) % 256 = rw (← y) h in
             let g : (b + n) / 256 ≡ b / 256 = omega arith in
             rw (y, g, e) (on.own_same, omega (arith, long, placed.inside), omega (arith, placed.low), placed.safe))
@@ -124,6 +124,6 @@ module _ (S : Start) (t : Heap) (ready : Ready S t) (p b : ℕ) (spot : Spot t p
             ahead q x' y' g,
             elim (dec_lt v b) [ yes l ↦ inl l | no l ↦ inr (elim (dec_lt v (b + n)) [ yes j ↦ absurd (f (omega arith)) | no j ↦ omega arith ]) ],
           ))
-      | inl e ↦ (let c : target u q ≡ b + n = ap (target u) e ∙ on.aim in
+      | inl e ↦ (let c : target u q ≡ b + n = rw e on.aim in
           let h : b + n ≤ v = omega arith in (placed.free v (omega arith) (omega arith), inr h))
     ]

@@ -101,7 +101,7 @@ module _ (S : Start) (laws : Lawful S.meaning) (m k : List ℕ) (e z : ℕ) (sam
   alike a l c p b =
       let i = base_link S m e a p c b in
       let f = same p (omega (arith, i.0)) i.2 i.1 in
-      record { real = rw f i.2.real; span = ap (span S.meaning) f }
+      record { real = rw f i.2.real; span = rw f refl }
 
   pub chain_after : (a : ℕ) → z ≤ a → Chain S m e a → Chain S k e a
   chain_after a l c = chain_alike S m k e a c (alike a l c)
@@ -144,7 +144,7 @@ module _ (S : Start) (laws : Lawful S.meaning) where
   gap_row k e g a l h p r = elim (cases_eq g a) [
     | inl f ↦ rw f r
     | inr n ↦ (let f = p (omega arith) in
-        let z : span S.meaning (rd S k g) ≡ a - g = ap (span S.meaning) f in
+        let z : span S.meaning (rd S k g) ≡ a - g = rw f refl in
         let y : g + span S.meaning (rd S k g) ≡ a = omega arith in
         piece g (padding_piece (rd S k g) (a - g) f) (omega arith) (rw y r))
   ]
@@ -152,7 +152,7 @@ module _ (S : Start) (laws : Lawful S.meaning) where
   gap_base : (k : List ℕ) (e g a q : ℕ) → g ≤ a → a ≤ e → (g < a → rd S k g ≡ padding (a - g)) → Base S k e a q → Base S k e g q
   gap_base k e g a q l h p b = elim (cases_eq g a) [
     | inl f ↦ rw f b
-    | inr n ↦ (let z : span S.meaning (rd S k g) ≡ a - g = ap (span S.meaning) (p (omega arith)) in
+    | inr n ↦ (let z : span S.meaning (rd S k g) ≡ a - g = rw (p (omega arith)) refl in
         let y : g + span S.meaning (rd S k g) ≡ a = omega arith in
         next g q (omega (arith, (base_inv S k e a q b).0)) (rw y b))
   ]
@@ -161,7 +161,7 @@ module _ (S : Start) (laws : Lawful S.meaning) where
   gap_old k e g a q l h p b o = elim (cases_eq g a) [
     | inl f ↦ rw (← f) b
     | inr n ↦ (let f = p (omega arith) in
-        let z : span S.meaning (rd S k g) ≡ a - g = ap (span S.meaning) f in
+        let z : span S.meaning (rd S k g) ≡ a - g = rw f refl in
         let y : g + span S.meaning (rd S k g) ≡ a = omega arith in
         elim (base_inv S k e g q b).1 [
           | inl x ↦ absurd (not_padding (rd S k g) (a - g) f (rw (← x) o))

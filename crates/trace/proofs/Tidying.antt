@@ -85,7 +85,7 @@ module _ (S : Start) (laws : Lawful S.meaning) (ms : List ℕ) where
     wipe_alike : (j : ℕ) → j ≢ s → Alike j m wiped_words
     wipe_alike j ne q low n high = elim (dec_lt j s) [
       | yes l ↦ laws.own (drop q m) (drop q wiped_words) n.real (part_before (s * 256) 256 m (replicate 256 0) inside zeros q (span M (rd S m q)) (omega arith))
-      | no l ↦ ap (reads M) (drop-put_mid (s * 256) 256 m (replicate 256 0) q (omega arith) (omega arith) zeros)
+      | no l ↦ rw (drop-put_mid (s * 256) 256 m (replicate 256 0) q (omega arith) (omega arith) zeros) refl
     ]
 
     wipe_words : (j : ℕ) → j ≢ s → SameWords j m wiped_words
@@ -193,7 +193,7 @@ module _ (S : Start) (laws : Lawful S.meaning) (ms : List ℕ) where
         elim (swept_cases s x.words x.segments ins ch ob) [
           | inl kp ↦ (let sw = kp.words in
               let k = swept_words M x.words ms s in
-              step_past m g y.condemned s x (ground (swept_segments M x.segments x.words ms s) k) a sw.long (ap (λ (z : Segments). length z.owners) kp.segments)
+              step_past m g y.condemned s x (ground (swept_segments M x.segments x.words ms s) k) a sw.long (rw kp.segments refl)
               (λ j ne. swept_alike s j x.words k ne sw) (λ j ne w z. sw.words w (elim (dec_lt j s) [ yes l ↦ inl (omega arith) | no l ↦ inr (omega arith) ]))
               (λ j ne. ap (λ (z : Segments). owner_of z j) kp.segments)
               (tidy ec (ap (λ (z : Segments). owner_of z s) kp.segments ∙ (a.coming s (omega arith)).1)

@@ -18,8 +18,8 @@ use Rattle.trace.proofs.Rounding.{Went, scan_place, nail_ok}
 use Rattle.trace.proofs.Rows.{sorted, base_cases, in_row, base_first, base_later, base_passed}
 
 stand_end : (m : Meaning) (ms : List ℕ) (at limit : ℕ) (h : Head) (k : ℕ) → (h ≡ Padding k) ⊎ (((to : ℕ) × (h ≡ Forwarded k to))) → (stand_by ms at limit m h).end ≡ at + k
-stand_end m ms at limit h k (inl e) = ap (λ (x : Head). (stand_by ms at limit m x).end) e
-stand_end m ms at limit h k (inr e) = ap (λ (x : Head). (stand_by ms at limit m x).end) e.1
+stand_end m ms at limit h k (inl e) = rw e refl
+stand_end m ms at limit h k (inr e) = rw e.1 refl
 
 module _ (S : Start) (ok : Sound S) (laws : Lawful S.meaning) where
   abbrev M : Meaning
@@ -219,7 +219,7 @@ module _ (S : Start) (ok : Sound S) (laws : Lawful S.meaning) where
       found : a ≡ q → cond (ltb w (a + size0 S a)) (base_of (head_of t.words e a) a) (point t e w k (a + size0 S a)) ≡ Some q
       found z =
           let hi' : w < a + size0 S a = rw z hi in
-          let w' : rd S t.words a ≡ object (layout0 S q) (slots0 S q) = ap (λ (ws : List ℕ). rd S ws a) f ∙ rw z o.1 in
+          let w' : rd S t.words a ≡ object (layout0 S q) (slots0 S q) = rw f (rw z o.1) in
           let n : M.size (shape (layout0 S q) (length (slots0 S q))) ≡ size0 S a = sym (ap (span M) o.1) ∙ ap (size0 S) (sym z) in
           rw (lt-ltb w (a + size0 S a) hi', seen_object M laws t.words a (layout0 S q) (slots0 S q) w' e (omega arith), z) refl
 
@@ -263,7 +263,7 @@ module _ (S : Start) (ok : Sound S) (laws : Lawful S.meaning) where
         let i = ok.inside q o.0 in
         let lo = ok.low q o.0 in
         let z : w / 256 ≡ q / 256 = omega arith in
-        let cw : condemns S.plan w ≡ true = ap (λ (s : ℕ). get_or S.plan.condemned s false) z ∙ c in
+        let cw : condemns S.plan w ≡ true = rw z c in
         let e : nails S.plan (length t.words) w ≡ true =
         rw (le-ltb w 256 (omega arith), le-ltb 65535 w (omega (arith, inv.ready.few, inv.long)), le-leb (limit_of w) (length t.words) (omega (arith, inv.long)), cw) refl in
         let u = used (q / 256) c in

@@ -43,7 +43,7 @@ unfolding traced
 traced_is m y ws x = refl
 
 ended_8 : (m : Meaning) (v : Heap) → targets_ended m v ≡ heap v.state (targets_closed m v.state v.words 8) v.marks v.greys
-ended_8 m v = ap (λ ws. heap v.state ws v.marks v.greys) (targets_8 m v.state v.words)
+ended_8 m v = rw (targets_8 m v.state v.words) refl
 
 -- the registers fixed, and what is nailed before
 abbrev pub fixed_roots : Meaning → Plan → List ℕ → Rooted → Rooted
