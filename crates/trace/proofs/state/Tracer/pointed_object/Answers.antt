@@ -13,8 +13,7 @@ returns-then-word-end g c =
 pub loop-at-preserved : goal.loop-at-preserved
 loop-at-preserved g c =
     let e = c.end_at-end.ensures.end in (
-      ap (λ z. pointed_in (g.F.Format.meaning c.args.self.now.format.now) c.args.heap.now.words.now c.args.heap.now.marks.now z c.args.limit c.args.word) e
-          ∙ sym (points_on (g.F.Format.meaning c.args.self.now.format.now) c.args.heap.now.words.now c.args.heap.now.marks.now c.args.limit c.args.word c.loop-at.at c.loop-at-test.true (omega (arith, c.if-word-end.false, e)))
-          ∙ c.loop-at.invariant.0,
+      rw e (sym (points_on (g.F.Format.meaning c.args.self.now.format.now) c.args.heap.now.words.now c.args.heap.now.marks.now c.args.limit c.args.word c.loop-at.at c.loop-at-test.true (omega (arith, c.if-word-end.false, e)))
+          ∙ c.loop-at.invariant.0),
       omega (arith, c.end_at-end.ensures.fits),
     )
