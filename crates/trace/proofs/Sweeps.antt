@@ -139,21 +139,22 @@ module _ (S : Start) (laws : Lawful S.meaning) where
   not_padding : (x : Thing) (n : ℕ) → x ≡ padding n → is_object x ≡ true → ⊥
   not_padding x n e h = cc
 
+  gap_end : (k : List ℕ) (g a : ℕ) → g ≤ a → rd S k g ≡ padding (a - g) → g + span S.meaning (rd S k g) ≡ a
+  gap_end k g a l f = rw f (omega arith)
+
   -- before a gap of padding, a row
   gap_row : (k : List ℕ) (e g a : ℕ) → g ≤ a → a ≤ e → (g < a → rd S k g ≡ padding (a - g)) → Row S.meaning k e a → Row S.meaning k e g
   gap_row k e g a l h p r = elim (cases_eq g a) [
     | inl f ↦ rw f r
     | inr n ↦ (let f = p (omega arith) in
-        let z : span S.meaning (rd S k g) ≡ a - g = rw f refl in
-        let y : g + span S.meaning (rd S k g) ≡ a = omega arith in
+        let y = gap_end k g a l f in
         piece g (padding_piece (rd S k g) (a - g) f) (omega arith) (rw y r))
   ]
 
   gap_base : (k : List ℕ) (e g a q : ℕ) → g ≤ a → a ≤ e → (g < a → rd S k g ≡ padding (a - g)) → Base S k e a q → Base S k e g q
   gap_base k e g a q l h p b = elim (cases_eq g a) [
     | inl f ↦ rw f b
-    | inr n ↦ (let z : span S.meaning (rd S k g) ≡ a - g = rw (p (omega arith)) refl in
-        let y : g + span S.meaning (rd S k g) ≡ a = omega arith in
+    | inr n ↦ (let y = gap_end k g a l (p (omega arith)) in
         next g q (omega (arith, (base_inv S k e a q b).0)) (rw y b))
   ]
 
@@ -161,8 +162,7 @@ module _ (S : Start) (laws : Lawful S.meaning) where
   gap_old k e g a q l h p b o = elim (cases_eq g a) [
     | inl f ↦ rw (← f) b
     | inr n ↦ (let f = p (omega arith) in
-        let z : span S.meaning (rd S k g) ≡ a - g = rw f refl in
-        let y : g + span S.meaning (rd S k g) ≡ a = omega arith in
+        let y = gap_end k g a l f in
         elim (base_inv S k e g q b).1 [
           | inl x ↦ absurd (not_padding (rd S k g) (a - g) f (rw (← x) o))
           | inr c ↦ rw (← y) c
@@ -171,11 +171,12 @@ module _ (S : Start) (laws : Lawful S.meaning) where
 
   swept_end : (ms : List ℕ) (e g : ℕ) (m : List ℕ) → g ≤ e → e - g ≤ 256 → e ≤ length m → Swept ms e g e m (pad g e m)
   swept_end ms e g m l small f =
-      let p : g < e → rd S (pad g e m) g ≡ padding (e - g) = λ h. (pad_to g e m l small f).reads (omega arith) in
+      let pd = pad_to g e m l small f in
+      let p : g < e → rd S (pad g e m) g ≡ padding (e - g) = λ h. pd.reads (omega arith) in
       record {
-        long = (pad_to g e m l small f).long;
-        outside = λ q j r h. (pad_to g e m l small f).others q j r (λ _. elim h [ inl x ↦ inl x | inr x ↦ inr (omega arith) ]);
-        words = λ w h. (pad_to g e m l small f).words w (λ _. elim h [ inl x ↦ inl x | inr x ↦ inr (omega arith) ]);
+        long = pd.long;
+        outside = λ q j r h. pd.others q j r (λ _. elim h [ inl x ↦ inl x | inr x ↦ inr (omega arith) ]);
+        words = λ w h. pd.words w (λ _. elim h [ inl x ↦ inl x | inr x ↦ inr (omega arith) ]);
         kept = λ q b k. absurd (omega (arith, (base_inv S m e e q b).0));
         row = gap_row (pad g e m) e g e l (omega arith) p ends;
         old = λ q b o. absurd (omega (arith, (base_inv S (pad g e m) e e q (gap_old (pad g e m) e g e q l (omega arith) p b o)).0));
@@ -199,11 +200,11 @@ module _ (S : Start) (laws : Lawful S.meaning) where
       → rd S m a ≡ object (layout_of (rd S m a)) (slots_of (rd S m a)) → Link S (rd S m a) → a + span S.meaning (rd S m a) ≤ e → Chain S m e (a + span S.meaning (rd S m a))
       → Swept ms e (a + span S.meaning (rd S m a)) (a + span S.meaning (rd S m a)) (pad g a m) k → Swept ms e g a m k
   swept_keep ms e g a m k l small low f mk ob lk hi ch s = record {
-    long = s.long ∙ (pad_to g a m l small (omega arith)).long;
+    long = s.long ∙ pd.long;
     outside = λ q j r h.
-        let x = (pad_to g a m l small (omega arith)).others q j r (λ _. elim h [ inl y ↦ inl y | inr y ↦ inr (omega arith) ]) in
+        let x = pd.others q j r (λ _. elim h [ inl y ↦ inl y | inr y ↦ inr (omega arith) ]) in
         s.outside q j (rw x r) (elim h [ inl y ↦ inl (omega arith) | inr y ↦ inr y ]) ∙ x;
-    words = λ w h. s.words w (elim h [ inl y ↦ inl (omega arith) | inr y ↦ inr y ]) ∙ (pad_to g a m l small (omega arith)).words w (λ _. elim h [ inl y ↦ inl y | inr y ↦ inr (omega arith) ]);
+    words = λ w h. s.words w (elim h [ inl y ↦ inl (omega arith) | inr y ↦ inr y ]) ∙ pd.words w (λ _. elim h [ inl y ↦ inl y | inr y ↦ inr (omega arith) ]);
     kept = λ q b h. elim (base_inv S m e a q b).1 [
       | inl y ↦ rw y at_a
       | inr c ↦ s.kept q (base_on S laws m m1 e a' after a' q (omega arith) ch c) h ∙ (let i = base_link S m e a' q ch c in after q i.0 i.2 i.1)
@@ -227,18 +228,21 @@ module _ (S : Start) (laws : Lawful S.meaning) where
       m1 : List ℕ
       m1 = pad g a m
 
+      pd : Padded S laws m m1 g (a - g)
+      pd = pad_to g a m l small (omega arith)
+
       after : (q : ℕ) → a' ≤ q → Link S (rd S m q) → q + span S.meaning (rd S m q) ≤ e → rd S m1 q ≡ rd S m q
-      after q h n y = (pad_to g a m l small (omega arith)).others q (span S.meaning (rd S m q)) (link_real S (rd S m q) n) (λ _. inr (omega arith))
+      after q h n y = pd.others q (span S.meaning (rd S m q)) (link_real S (rd S m q) n) (λ _. inr (omega arith))
 
       in_m1 : rd S m1 a ≡ rd S m a
-      in_m1 = (pad_to g a m l small (omega arith)).others a (span S.meaning (rd S m a)) (link_real S (rd S m a) lk) (λ _. inr (omega arith))
+      in_m1 = pd.others a (span S.meaning (rd S m a)) (link_real S (rd S m a) lk) (λ _. inr (omega arith))
 
       at_a : rd S k a ≡ rd S m a
       at_a = s.outside a (span S.meaning (rd S m a)) (rw in_m1 (link_real S (rd S m a) lk)) (inl (omega arith)) ∙ in_m1
 
       at_g : g < a → rd S k g ≡ padding (a - g)
       at_g h =
-          let x = (pad_to g a m l small (omega arith)).reads (omega arith) in
+          let x = pd.reads (omega arith) in
           s.outside g (a - g) (real_padding S.meaning (rd S m1 g) (a - g) x) (inl (omega arith)) ∙ x
 
   -- ---- the walk

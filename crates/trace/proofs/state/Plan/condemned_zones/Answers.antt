@@ -6,4 +6,4 @@ pub returns : goal.returns
 unfolding all_zones
 returns c =
     let e : c.loop-s.s ≡ 256 = omega arith in
-    c.loop-s.invariant ∙ ap (zones_of c.args.self.now c.args.segments.now) e
+    rw e at c.loop-s.invariant

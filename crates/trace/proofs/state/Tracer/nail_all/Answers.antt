@@ -7,4 +7,4 @@ pub returns-clause-after : goal.returns-clause-after
 unfolding nailed_by_all
 returns-clause-after g c =
     let e : c.loop-word.word-index ≡ 8 = omega arith in
-    c.loop-word.invariant.0 ∙ ap (all_nailed (g.F.Format.meaning c.args.self.now.format.now) c.args.self.now.plan.now c.args.ambiguous.now (contents c.args.heap.now)) e
+    rw e at c.loop-word.invariant.0
