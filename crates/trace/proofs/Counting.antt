@@ -39,10 +39,7 @@ count_but_one : (f g : ℕ → Bool) (n b : ℕ) → ((w : ℕ) → w ≢ b → 
 count_but_one f g zero b h = (omega arith, λ l. omega arith)
 count_but_one f g (suc n) b h =
     let i = count_but_one f g n b h in
-    elim (cases_eq n b) [
-      | inl e ↦ (let k = one_le (g n) true (λ z. refl) in let j = i.1 (omega arith) in (omega arith, λ l. omega arith))
-      | inr ne ↦ (let k = one_le (g n) (f n) (h n ne) in (omega (arith, i.0), λ l. (let j = i.1 (omega arith) in omega arith)))
-    ]
+    grind arith
 
 -- one comes, and one goes
 pub count_swap : (f g : ℕ → Bool) (n a b : ℕ) → ((w : ℕ) → w ≢ b → g w ≡ true → f w ≡ true) → a < n → f a ≡ true → g a ≡ false → count g n ≤ count f n

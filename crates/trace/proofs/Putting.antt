@@ -98,10 +98,7 @@ module _ (S : Start) (t : Heap) (k : List ℕ) (long : length k ≡ length t.wor
           x.0,
           elim x.1 [
             | inl y ↦ inl y
-            | inr y ↦ elim (dec_lt f.front (s * 256 + 256)) [
-              | yes l ↦ inr (pads s p f.front e o x.0 f.below f.low l y ∙ y)
-              | no l ↦ inl (omega (arith, f.high))
-            ]
+            | inr y ↦ grind arith
           ],
         )
       ];
@@ -109,14 +106,11 @@ module _ (S : Start) (t : Heap) (k : List ℕ) (long : length k ≡ length t.wor
   }
 
 pub seg_apart : (x n y k : ℕ) → x / 256 ≢ y / 256 → x % 256 + n ≤ 256 → y % 256 + k ≤ 256 → Apart x n y k
-seg_apart x n y k ne h g = elim (dec_lt x y) [
-  | yes l ↦ inl (let z : x / 256 < y / 256 = omega arith in omega arith)
-  | no l ↦ inr (let z : y / 256 < x / 256 = omega arith in omega arith)
-]
+seg_apart x n y k ne h g = grind arith
 
 -- a word of another segment
 pub word_apart : (w p n : ℕ) → w / 256 ≢ p / 256 → p % 256 + n ≤ 256 → (w < p) ⊎ (p + n ≤ w)
-word_apart w p n ne h = elim (dec_lt w p) [ yes l ↦ inl l | no l ↦ inr (let z : p / 256 < w / 256 = omega arith in omega arith) ]
+word_apart w p n ne h = grind arith
 
 -- a cell's segment is in use
 pub cell_used : (S : Start) (ok : Sound S) (Todo : ℕ → Type 0) (t : Heap) → Inv S Todo t → (a p : ℕ) → Std S a → Cell S t.words a p → owner t (p / 256) ≢ None

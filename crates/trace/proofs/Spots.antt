@@ -113,7 +113,7 @@ module _ (S : Start) (t : Heap) (ready : Ready S t) (p b : ℕ) (spot : Spot t p
     room_onto v (unused x y e) =
         let f = not_ours (v / 256) e in (
           unused x (omega (arith, long)) (sym (on.own_other (v / 256) f) ∙ e),
-          elim (dec_lt v b) [ yes l ↦ inl l | no l ↦ inr (elim (dec_lt v (b + n)) [ yes j ↦ absurd (f (omega arith)) | no j ↦ omega arith ]) ],
+          grind arith,
         )
     room_onto v (ahead q x y z) = elim (cases_eq q p) [
       | inr ne ↦ (let c = on.aims q ne in
@@ -122,7 +122,7 @@ module _ (S : Start) (t : Heap) (ready : Ready S t) (p b : ℕ) (spot : Spot t p
           let x' : target t q ≤ v = rw (← c) x in
           let y' : v < target t q / 256 * 256 + 256 = rw (← c) y in (
             ahead q x' y' g,
-            elim (dec_lt v b) [ yes l ↦ inl l | no l ↦ inr (elim (dec_lt v (b + n)) [ yes j ↦ absurd (f (omega arith)) | no j ↦ omega arith ]) ],
+            grind arith,
           ))
       | inl e ↦ (let c : target u q ≡ b + n = rw e on.aim in
           let h : b + n ≤ v = omega arith in (placed.free v (omega arith) (omega arith), inr h))

@@ -175,8 +175,8 @@ module _ (S : Start) (laws : Lawful S.meaning) where
       let p : g < e → rd S (pad g e m) g ≡ padding (e - g) = λ h. pd.reads (omega arith) in
       record {
         long = pd.long;
-        outside = λ q j r h. pd.others q j r (λ _. elim h [ inl x ↦ inl x | inr x ↦ inr (omega arith) ]);
-        words = λ w h. pd.words w (λ _. elim h [ inl x ↦ inl x | inr x ↦ inr (omega arith) ]);
+        outside = λ q j r h. pd.others q j r (λ _. grind arith);
+        words = λ w h. pd.words w (λ _. grind arith);
         kept = λ q b k. absurd (omega (arith, (base_inv S m e e q b).0));
         row = gap_row (pad g e m) e g e l (omega arith) p ends;
         old = λ q b o. absurd (omega (arith, (base_inv S (pad g e m) e e q (gap_old (pad g e m) e g e q l (omega arith) p b o)).0));
@@ -202,9 +202,9 @@ module _ (S : Start) (laws : Lawful S.meaning) where
   swept_keep ms e g a m k l small low f mk ob lk hi ch s = record {
     long = s.long ∙ pd.long;
     outside = λ q j r h.
-        let x = pd.others q j r (λ _. elim h [ inl y ↦ inl y | inr y ↦ inr (omega arith) ]) in
-        s.outside q j (rw x r) (elim h [ inl y ↦ inl (omega arith) | inr y ↦ inr y ]) ∙ x;
-    words = λ w h. s.words w (elim h [ inl y ↦ inl (omega arith) | inr y ↦ inr y ]) ∙ pd.words w (λ _. elim h [ inl y ↦ inl y | inr y ↦ inr (omega arith) ]);
+        let x = pd.others q j r (λ _. grind arith) in
+        s.outside q j (rw x r) (grind arith) ∙ x;
+    words = λ w h. s.words w (grind arith) ∙ pd.words w (λ _. grind arith);
     kept = λ q b h. elim (base_inv S m e a q b).1 [
       | inl y ↦ rw y at_a
       | inr c ↦ s.kept q (base_on S laws m m1 e a' after a' q (omega arith) ch c) h ∙ (let i = base_link S m e a' q ch c in after q i.0 i.2 i.1)

@@ -89,7 +89,7 @@ module _ (S : Start) (laws : Lawful S.meaning) (ms : List ℕ) where
     ]
 
     wipe_words : (j : ℕ) → j ≢ s → SameWords j m wiped_words
-    wipe_words j ne w z = get_or_put_outside (s * 256) 256 m (replicate 256 0) inside zeros w (elim (dec_lt j s) [ yes l ↦ inl (omega arith) | no l ↦ inr (omega arith) ])
+    wipe_words j ne w z = get_or_put_outside (s * 256) 256 m (replicate 256 0) inside zeros w (grind arith)
 
     wipe_zero : (w : ℕ) → w / 256 ≡ s → get_or wiped_words w 0 ≡ 0
     wipe_zero w z =
@@ -177,7 +177,7 @@ module _ (S : Start) (laws : Lawful S.meaning) (ms : List ℕ) where
 
   module _ (m : List ℕ) (g : Segments) (y : Plan) (few : length g.owners ≡ 256) (fit : (j : ℕ) → get_or y.condemned j false ≡ true → Fit m j) where
     swept_alike : (s j : ℕ) (k l : List ℕ) → j ≢ s → Swept S laws ms (s * 256 + 256) (s * 256) (s * 256) k l → Alike j k l
-    swept_alike s j k l ne sw q low n high = sw.outside q (span M (rd S k q)) (record { real = n.real; span = refl }) (elim (dec_lt j s) [ yes l ↦ inl (omega arith) | no l ↦ inr (omega arith) ])
+    swept_alike s j k l ne sw q low n high = sw.outside q (span M (rd S k q)) (record { real = n.real; span = refl }) (grind arith)
 
     condemned_ok : (s : ℕ) → s < 256 → (x : Ground) → After m g y.condemned s x → get_or y.condemned s false ≡ true
         → After m g y.condemned (suc s) (ground (swept_segments M x.segments x.words ms s) (swept_words M x.words ms s))
@@ -194,7 +194,7 @@ module _ (S : Start) (laws : Lawful S.meaning) (ms : List ℕ) where
           | inl kp ↦ (let sw = kp.words in
               let k = swept_words M x.words ms s in
               step_past m g y.condemned s x (ground (swept_segments M x.segments x.words ms s) k) a sw.long (rw kp.segments refl)
-              (λ j ne. swept_alike s j x.words k ne sw) (λ j ne w z. sw.words w (elim (dec_lt j s) [ yes l ↦ inl (omega arith) | no l ↦ inr (omega arith) ]))
+              (λ j ne. swept_alike s j x.words k ne sw) (λ j ne w z. sw.words w (grind arith))
               (λ j ne. ap (λ (z : Segments). owner_of z j) kp.segments)
               (tidy ec (ap (λ (z : Segments). owner_of z s) kp.segments ∙ (a.coming s (omega arith)).1)
               (tidy_from s m x.words k f.chain al (record { kept = sw.kept; row = sw.row; old = sw.old; new = sw.new }))))
