@@ -1,12 +1,10 @@
 -- What the writes of a lawful format do to what stands in memory.
-use Rattle.std.proofs.Common.{◌≡◌, ℕ, ◌+◌, ◌-◌, ◌<◌, ◌≤◌, true, ◌&&◌, leb, ◌⊎◌, List, length, get_or, drop, set, sym, refl, ap, ◌∙◌, ap₂, inl, inr, arith}
-use borrow.Rule.Slice.PartMut.{put_mid}
-use Rattle.std.proofs.lemmas.Bool.{cases_lt, cond-true, cond-false, le-leb, lt-leb}
+use Rattle.std.proofs.Common.{◌≡◌, ℕ, ◌+◌, ◌-◌, ◌<◌, ◌≤◌, true, ◌⊎◌, List, length, get_or, drop, set, sym, refl, ap, ◌∙◌, ap₂, inl, inr, arith}
+use Rattle.std.proofs.lemmas.Bool.{cases_lt, le-leb, lt-leb}
 use Rattle.std.proofs.lemmas.List.{length-take-le, length-drop, take-append-drop}
 use Rattle.format.specs.declared.things.Slot.{Slot}
 use Rattle.format.specs.Meaning.{Meaning, shape, holds, Thing, object, forwarded, padding, thing_at}
 use Rattle.format.specs.Laws.{Lawful, Leaves, part, rewritten, Readings}
-use Rattle.format.specs.Answers.{pad_words}
 use Rattle.format.proofs.Memory.{readings, leaves, own_part}
 use Rattle.arena.specs.Buffers.{padded_part}
 use Rattle.trace.specs.Traces.{moved_words, copied_words}

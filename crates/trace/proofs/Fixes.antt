@@ -1,6 +1,6 @@
 -- Fix keeps the invariant, and settles what it is given.
-use Rattle.std.proofs.Common.{◌≡◌, ℕ, ◌+◌, ◌-◌, ◌*◌, ◌/◌, ◌%◌, ◌<◌, ◌≤◌, min, true, false, ◌&&◌, ltb, leb, ◌≢◌, List, length, get_or, set, Some, None, Option, sym, refl, ap, ◌∙◌, subst, inl, inr, le_trans, arith, length-set}
-use Rattle.std.proofs.lemmas.Bool.{cases_Bool, cond-true, cond-false, lt-ltb, le-ltb, le-leb, leb-true, and_from}
+use Rattle.std.proofs.Common.{◌≡◌, ℕ, ◌+◌, ◌-◌, ◌*◌, ◌/◌, ◌%◌, ◌<◌, ◌≤◌, min, true, false, ltb, leb, ◌≢◌, List, length, get_or, set, Some, None, Option, sym, refl, ap, ◌∙◌, inl, inr, le_trans, arith, length-set}
+use Rattle.std.proofs.lemmas.Bool.{cases_Bool, lt-ltb, le-ltb, le-leb, leb-true, and_from}
 use Rattle.std.proofs.lemmas.Bool.Decides.{nat_tests}
 use Rattle.std.proofs.lemmas.List.{get_or-set_same, get_or-set_other}
 use Rattle.format.specs.declared.things.Head.{Head}
@@ -17,8 +17,8 @@ use Rattle.trace.specs.declared.state.Class.{Class}
 use Rattle.trace.specs.declared.state.Class.TheVariants.{Amc, Ams, Lo}
 use Rattle.trace.specs.declared.state.Trace.{Trace}
 use Rattle.trace.specs.declared.deciding.Fate.{Fate}
-use Rattle.trace.specs.declared.deciding.Fate.TheVariants.{Stay, Copy, Fresh}
-use Rattle.trace.specs.Traces.{limit_of, head_at, class_of, rest, by_free, by_room, by_class, by_owner, by_head, sought, taken_words, copied_words, copied_state, taken_state, Heap, heap, acted, answered, fate_of, fixed, fix_answer}
+use Rattle.trace.specs.declared.deciding.Fate.TheVariants.{Copy, Fresh}
+use Rattle.trace.specs.Traces.{limit_of, head_at, class_of, rest, by_free, by_room, by_class, by_owner, sought, taken_words, copied_words, copied_state, taken_state, Heap, heap, acted, answered, fate_of, fixed, fix_answer}
 use Rattle.trace.specs.Collections.{is_amc, is_lo, moves}
 use Rattle.trace.proofs.Cells.{Apart, slots_of, owner, target, stays, rd, owner0, leafy, Start, Std, size0, layout0, slots0, Obj, Fits, AllFit, Moved, Cell, same, copy, Names, null, names, stay, move, Settled, empty, settled, Body, Held, here, away, still, Null, Room, ahead, Owned, Inv, Grows, Keeps, Sound}
 use Rattle.trace.proofs.Facts.{real_padding, stays_by_zone, stays_by_mark, leaves, stays_zero, board_keeps, board_set, body_map, grows_refl, grows_trans, final_grows, final_cell, cell_real, body_size, owned_on}

@@ -1,12 +1,12 @@
 -- A collection keeps a sound arena, and all that it does not let go.
-use Rattle.std.proofs.Common.{◌≡◌, ℕ, true, cond, not, ◌||◌, eqb, Some, None, Option, sym, refl, ap, ◌∙◌, subst, inl, inr, arith, ne_eqb}
+use Rattle.std.proofs.Common.{◌≡◌, ℕ, true, not, ◌||◌, eqb, Some, None, Option, refl, inl, inr, arith, ne_eqb}
 use borrow.Author.Tests.{both_ways}
-use Rattle.std.proofs.lemmas.Bool.{cases_Bool, cond-true, cond-false, or_right}
+use Rattle.std.proofs.lemmas.Bool.{cases_Bool, or_right}
 use Rattle.format.specs.declared.things.Slot.{Slot}
 use Rattle.format.specs.declared.things.Slot.TheVariants.{Reference, Number}
 use Rattle.trace.specs.Traces.{condemns, Heap}
-use Rattle.trace.specs.Keeping.{place_by, place, Follows, SlotFollows}
-use Rattle.trace.proofs.Cells.{marked, stays, Start, Std, Obj, Fits, Moved, Final, stay, move, Settled, empty, settled, Held, here, away, still, Inv, Sound}
+use Rattle.trace.specs.Keeping.{place, Follows, SlotFollows}
+use Rattle.trace.proofs.Cells.{marked, stays, Start, Std, Obj, Fits, Final, stay, move, Settled, empty, settled, Held, here, away, still, Inv, Sound}
 
 -- ---- fates
 

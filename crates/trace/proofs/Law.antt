@@ -1,25 +1,24 @@
 -- What a collection keeps.
-use Rattle.std.proofs.Common.{◌≡◌, ℕ, ◌+◌, ◌*◌, ◌/◌, ◌%◌, ◌<◌, ◌≤◌, Bool, true, false, not, ◌&&◌, ltb, ◌⊎◌, List, length, get_or, replicate, Some, sym, refl, ap, ◌∙◌, subst, inl, inr, arith, None}
+use Rattle.std.proofs.Common.{◌≡◌, ℕ, ◌+◌, ◌*◌, ◌/◌, ◌%◌, ◌<◌, ◌≤◌, true, false, ◌⊎◌, List, length, get_or, replicate, Some, sym, refl, ap, ◌∙◌, subst, inl, inr, arith, None}
 use native.Mathlib.Decide.{dec_lt}
 use borrow.Author.Tests.{both_ways}
 use Rattle.trace.proofs.Spots.{owner_cases}
-use Rattle.std.proofs.lemmas.Bool.{cases_Bool, cond-true, lt-ltb, and_from}
+use Rattle.std.proofs.lemmas.Bool.{cases_Bool, lt-ltb, and_from}
 use Rattle.std.proofs.lemmas.List.{length-replicate}
 use Rattle.format.specs.declared.things.Slot.TheVariants.{Number}
 use Rattle.format.specs.Meaning.{Meaning, object}
 use Rattle.format.specs.Laws.{Lawful}
-use Rattle.arena.specs.Boards.{bit_of, bit}
-use Rattle.arena.specs.Segments.{Owner, owner_of, segments_in}
+use Rattle.arena.specs.Boards.{bit}
+use Rattle.arena.specs.Segments.{owner_of, segments_in}
 use Rattle.arena.proofs.Lowest.{zero_bit}
 use Rattle.trace.specs.declared.state.Plan.{Plan}
 use Rattle.trace.specs.Traces.{condemns, Heap, heap, rounded}
-use Rattle.trace.specs.Collections.{in_set, all_zones, refers, all_buffers_closed, all_nailed, Rooted, rooted, roots_fixed, segments_scanned, Ground, ground, segments_swept}
-use Rattle.format.specs.declared.refusals.Refusal.TheVariants.{WrongLength, CollectionsSpent}
-use Rattle.location.specs.Locations.{zone_of, has_zone, can_age}
-use Rattle.trace.specs.Collect.{Held, fits, plan_of, untraced, begun, before_sweep, after_sweep, ended, performed, held_aged, answering, refused}
+use Rattle.trace.specs.Collections.{in_set, all_zones, all_buffers_closed, all_nailed, Rooted, rooted, roots_fixed, segments_scanned, Ground, ground, segments_swept}
+use Rattle.location.specs.Locations.{zone_of, has_zone}
+use Rattle.trace.specs.Collect.{Held, plan_of, untraced, begun, before_sweep, after_sweep, ended, performed, held_aged}
 use Rattle.trace.specs.Keeping.{Space, space, is_base, is_owned, Leads, place, Follows, Keeps, closed_space, SoundArena, KeptBy, CollectionsKeep}
 use Rattle.trace.specs.Keeping.{Sound as SoundSpace}
-use Rattle.trace.proofs.Cells.{slots_of, layout_of, owner, target, grey, rd, owner0, leafy, Start, Std, size0, layout0, slots0, Obj, Final, stay, move, Settled, empty, settled, Inv, Grows, Sound}
+use Rattle.trace.proofs.Cells.{slots_of, layout_of, owner, target, grey, rd, owner0, Start, Std, size0, layout0, slots0, Obj, Final, stay, move, Settled, empty, settled, Inv, Grows, Sound}
 use Rattle.trace.proofs.Facts.{get_or_all, stays_by_mark, stays_by_zone, leaves, settled_grows, grows_trans}
 use Rattle.trace.proofs.Putting.{inv_todo, final_body}
 use Rattle.trace.proofs.Rounding.{Went, one_place, rounds_ok, rounds_end, Regs, regs_ok}

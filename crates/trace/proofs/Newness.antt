@@ -1,7 +1,7 @@
 -- A new arena is sound.
 use Rattle.std.proofs.Common.{◌≡◌, ℕ, zero, suc, ◌+◌, ◌*◌, ◌/◌, ◌%◌, true, ◌&&◌, eqb, leb, List, length, replicate, sym, refl, ap, ◌∙◌, inl, inr, None}
 use borrow.Author.Tests.{both_ways}
-use Rattle.std.proofs.lemmas.Bool.{cases_Bool, cond-true, cond-false, eqb-true, leb-true, and_parts}
+use Rattle.std.proofs.lemmas.Bool.{cases_Bool, eqb-true, leb-true, and_parts}
 use Rattle.std.proofs.lemmas.List.{length-replicate}
 use Rattle.format.specs.Meaning.{Meaning}
 use Rattle.arena.specs.Segments.{Owner, all_free, owner_of}

@@ -8,7 +8,7 @@ use Rattle.format.specs.declared.things.Slot.TheVariants.{Reference, Number}
 use Rattle.format.specs.Meaning.{Meaning, Thing, nothing, object, forwarded, padding, thing_at, span}
 use Rattle.format.specs.Laws.{Lawful}
 use Rattle.format.proofs.Memory.{readings}
-use Rattle.arena.specs.Segments.{Owner, owner_of}
+use Rattle.arena.specs.Segments.{Owner}
 use Rattle.trace.specs.Traces.{condemns, Heap}
 use Rattle.trace.specs.Keeping.{Piece, Row, ends, piece, is_base, is_owned, ObjectAt, Leads, SlotLeads, SlotLeaf}
 use Rattle.trace.specs.Keeping.{Sound as SoundSpace}

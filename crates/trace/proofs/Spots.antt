@@ -1,9 +1,8 @@
 -- Where the next copy goes.
-use Rattle.std.proofs.Common.{◌≡◌, ℕ, zero, suc, ◌+◌, ◌-◌, ◌*◌, ◌/◌, ◌%◌, ◌<◌, ◌≤◌, false, ◌≢◌, ◌⊎◌, length, get_or, Some, sym, refl, ap, ◌∙◌, subst, inl, inr, arith, None}
-use native.Mathlib.Decide.{dec_lt}
+use Rattle.std.proofs.Common.{◌≡◌, ℕ, zero, suc, ◌+◌, ◌-◌, ◌*◌, ◌/◌, ◌%◌, ◌<◌, ◌≤◌, false, ◌≢◌, ◌⊎◌, length, get_or, Some, sym, refl, ap, ◌∙◌, inl, inr, arith, None}
 use Rattle.std.proofs.lemmas.Bool.{cases_eq}
 use Rattle.arena.specs.declared.segments.Segments.{Segments}
-use Rattle.arena.specs.Segments.{Owner, owner_of, segments_in, free_or, free_among, lowest_free}
+use Rattle.arena.specs.Segments.{Owner, owner_of, segments_in, free_among, lowest_free}
 use Rattle.trace.specs.Traces.{Heap}
 use Rattle.trace.proofs.Cells.{owner, target, Start, Room, unused, ahead, Ready}
 

@@ -1,5 +1,5 @@
 -- After the sweep the arena is sound again, and its objects are those that were kept.
-use Rattle.std.proofs.Common.{◌≡◌, ℕ, ◌+◌, ◌-◌, ◌*◌, ◌/◌, ◌%◌, ◌<◌, Bool, true, false, ◌⊎◌, List, length, get_or, sym, refl, ap, ◌∙◌, subst, inl, inr, arith, Some, None}
+use Rattle.std.proofs.Common.{◌≡◌, ℕ, ◌+◌, ◌-◌, ◌*◌, ◌/◌, ◌%◌, ◌<◌, true, false, ◌⊎◌, List, length, get_or, sym, refl, ap, ◌∙◌, subst, inl, inr, arith, Some, None}
 use borrow.Author.Tests.{both_ways}
 use Rattle.std.proofs.lemmas.Bool.{and_parts, and_from, true_from_ne_false}
 use Rattle.format.specs.declared.things.Slot.{Slot}
@@ -11,7 +11,7 @@ use Rattle.arena.specs.Segments.{owner_of}
 use Rattle.trace.specs.Traces.{condemns, Heap}
 use Rattle.trace.specs.Keeping.{space, Piece, Row, ends, piece, is_base, is_owned, SlotLeads, SlotLeaf}
 use Rattle.trace.specs.Keeping.{Sound as SoundSpace}
-use Rattle.trace.proofs.Cells.{slots_of, layout_of, owner, target, marked, grey, stays, rd, owner0, leafy, Start, Std, thing0, size0, layout0, slots0, Obj, Fits, AllFit, Moved, same, copy, Names, null, names, Final, stay, move, Settled, empty, settled, Held, here, away, still, Clean, Null, unused, Front, Inv, Sound}
+use Rattle.trace.proofs.Cells.{slots_of, layout_of, owner, target, marked, grey, stays, rd, owner0, leafy, Start, Std, thing0, size0, layout0, slots0, Obj, Fits, AllFit, Moved, same, copy, Names, null, names, Final, stay, move, Settled, empty, settled, Held, here, away, still, Clean, Null, Front, Inv, Sound}
 use Rattle.trace.proofs.Facts.{stays_by_zone, stays_by_mark, cell_real, not_staying}
 use Rattle.trace.proofs.Putting.{final_body}
 use Rattle.trace.proofs.Spots.{pool_not_free, owner_cases, pool_same}

@@ -1,15 +1,13 @@
 -- The sweep of a segment leaves what is marked, in a row again.
-use Rattle.std.proofs.Common.{Bool, ◌≡◌, ℕ, zero, suc, ◌+◌, ◌-◌, ◌<◌, ◌≤◌, true, false, ltb, ◌≢◌, ◌⊎◌, List, length, get_or, sym, refl, ap, ◌∙◌, subst, inl, inr, arith}
+use Rattle.std.proofs.Common.{◌≡◌, ℕ, zero, suc, ◌+◌, ◌-◌, ◌<◌, ◌≤◌, true, false, ltb, ◌≢◌, ◌⊎◌, List, length, get_or, refl, ap, ◌∙◌, subst, inl, inr, arith}
 use Rattle.std.proofs.lemmas.Bool.{cases_Bool, cond-true, lt-ltb, le-ltb, cases_eq}
-use Rattle.format.specs.declared.things.Head.{Head}
-use Rattle.format.specs.declared.things.Head.TheVariants.{Object, Forwarded, Padding}
 use Rattle.format.specs.declared.things.Slot.{Slot}
-use Rattle.format.specs.Meaning.{shape, Thing, nothing, object, forwarded, padding, span}
+use Rattle.format.specs.Meaning.{Thing, nothing, object, forwarded, padding, span}
 use Rattle.format.specs.Laws.{Lawful}
 use Rattle.arena.specs.Boards.{bit}
 use Rattle.arena.specs.Buffers.{padded_part}
 use Rattle.trace.specs.declared.sweeping.Stand.{Stand}
-use Rattle.trace.specs.Traces.{kept, loose, stand_by, stood, walked, row_by, thing_swept, thing_end}
+use Rattle.trace.specs.Traces.{kept, loose, stood, walked, row_by, thing_swept, thing_end}
 use Rattle.trace.specs.Traces.{Row as SweepRow, row as sweep_row}
 use Rattle.trace.specs.Keeping.{Piece, Row, ends, piece}
 use Rattle.trace.proofs.Cells.{slots_of, layout_of, rd, Start}

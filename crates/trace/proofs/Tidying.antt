@@ -2,17 +2,17 @@
 use Rattle.std.proofs.Common.{◌≡◌, ℕ, zero, suc, ◌+◌, ◌-◌, ◌*◌, ◌/◌, ◌<◌, ◌≤◌, Bool, true, false, eqb, ◌≢◌, ◌⊎◌, List, length, get_or, drop, set, replicate, sym, refl, ap, ◌∙◌, inl, inr, arith, length-set, eq-eqb, ne_eqb, None}
 use native.Mathlib.Decide.{dec_lt}
 use borrow.Rule.Slice.PartMut.{put_mid}
-use Rattle.std.proofs.lemmas.Bool.{cases_Bool, cond-true, cond-false, le-leb, cases_eq}
+use Rattle.std.proofs.lemmas.Bool.{cases_Bool, le-leb, cases_eq}
 use Rattle.std.proofs.lemmas.List.{length-replicate, get_or-replicate, get_or-drop, get_or_append_left, get_or-set_same, get_or-set_other}
 use Rattle.std.proofs.lemmas.Slice.{drop-put_mid}
-use Rattle.format.specs.Meaning.{Meaning, object, reads, span}
+use Rattle.format.specs.Meaning.{Meaning, object, span}
 use Rattle.format.specs.Laws.{Lawful}
 use Rattle.format.proofs.Memory.{length_put, drop_put, get_or_put_outside, part_before}
 use Rattle.arena.specs.declared.segments.Segments.{Segments}
 use Rattle.arena.specs.Boards.{bit}
-use Rattle.arena.specs.Segments.{Owner, owner_of, in_arena, freed, freed_words}
+use Rattle.arena.specs.Segments.{Owner, owner_of, in_arena}
 use Rattle.trace.specs.declared.state.Plan.{Plan}
-use Rattle.trace.specs.Traces.{swept_row, last_words, last_segments, swept_words, swept_segments}
+use Rattle.trace.specs.Traces.{swept_row, swept_words, swept_segments}
 use Rattle.trace.specs.Traces.{Row as SweepRow}
 use Rattle.trace.specs.Collections.{Ground, ground, segment_swept, segments_swept}
 use Rattle.trace.specs.Keeping.{Row}

@@ -7,7 +7,7 @@ use Rattle.format.specs.Meaning.{Meaning, shape, seen, object, padding, span}
 use Rattle.format.specs.Laws.{Lawful, part}
 use Rattle.arena.specs.Segments.{Owner}
 use Rattle.arena.proofs.BoardLaws.{laws_of}
-use Rattle.trace.specs.Traces.{limit_of, condemns, Heap, by_object, scanned, stand_by, walked}
+use Rattle.trace.specs.Traces.{limit_of, condemns, Heap, scanned, stand_by, walked}
 use Rattle.trace.specs.Collections.{base_of, pointed, pointed_in, nails, nailed_at, nailed, all_nailed, end_at, refers, segment_scanned, segments_scanned}
 use Rattle.trace.specs.Keeping.{Row, ends, piece, is_base}
 use Rattle.trace.proofs.Cells.{slots_of, marked, rd, owner0, Start, Std, thing0, size0, layout0, slots0, Obj, stay, Held, here, away, still, Inv, Grows, Sound}

@@ -1,5 +1,5 @@
 -- Walks over the things of a row.
-use Rattle.std.proofs.Common.{◌≡◌, ℕ, zero, suc, ◌+◌, ◌-◌, ◌*◌, ◌<◌, ◌≤◌, cond, eqb, ltb, ◌⊎◌, List, length, drop, sym, refl, ap, ◌∙◌, inl, inr, arith}
+use Rattle.std.proofs.Common.{◌≡◌, ℕ, zero, suc, ◌+◌, ◌-◌, ◌*◌, ◌<◌, ◌≤◌, cond, ltb, ◌⊎◌, List, length, drop, sym, refl, ap, ◌∙◌, inl, inr, arith}
 use Rattle.std.proofs.lemmas.Bool.{cases_lt, cond-true, cond-false, lt-ltb, le-ltb, le-leb, eq-eqb}
 use Rattle.std.proofs.lemmas.List.{length-take}
 use Rattle.format.specs.declared.things.Head.{Head}
@@ -8,9 +8,9 @@ use Rattle.format.specs.Meaning.{Meaning, extent, seen}
 use Rattle.format.specs.Laws.{part}
 use Rattle.format.proofs.Heads.{range_extent, seen_cases}
 use Rattle.arena.specs.declared.segments.Segments.{Segments}
-use Rattle.arena.specs.Segments.{in_arena, freed, freed_words}
+use Rattle.arena.specs.Segments.{freed, freed_words}
 use Rattle.trace.specs.declared.sweeping.Stand.{Stand}
-use Rattle.trace.specs.Traces.{stand_by, stood, walked, Row, row, row_by, thing_swept, thing_end, swept_row, last_words, last_segments, swept_words, swept_segments}
+use Rattle.trace.specs.Traces.{stand_by, stood, walked, Row, row, row_by, thing_swept, thing_end, swept_row, swept_words, swept_segments}
 
 module _ {S : Type 0} (f : S → ℕ → S) (onto : S → ℕ → ℕ) (limit : ℕ) (ahead : (s : S) (at : ℕ) → at < limit → at < onto s at) where
   -- more turns than there are words left change nothing

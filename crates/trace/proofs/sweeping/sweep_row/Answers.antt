@@ -1,6 +1,4 @@
-use Rattle.std.proofs.Common.{◌-◌, sym, ap, ◌∙◌, arith}
-use Rattle.std.proofs.lemmas.Bool.{cond-true, cond-false}
-use Rattle.trace.specs.Traces.{Row, row, walked, thing_swept, thing_end}
+use Rattle.std.proofs.Common.{◌∙◌, arith}
 use Rattle.trace.proofs.Walks.{step}
 use Rattle.trace.proofs.sweeping.sweep_row.Goals as goal
 

@@ -1,5 +1,5 @@
-use Rattle.std.proofs.Common.{◌≡◌, ap, ◌∙◌, arith}
-use Rattle.trace.specs.Collections.{zones_of, all_zones}
+use Rattle.std.proofs.Common.{◌≡◌, arith}
+use Rattle.trace.specs.Collections.{all_zones}
 use Rattle.trace.proofs.state.Plan.condemned_zones.Goals as goal
 
 pub returns : goal.returns

@@ -1,6 +1,5 @@
-use Rattle.std.proofs.Common.{◌≡◌, ap, ◌∙◌, arith}
-use Rattle.trace.specs.Collections.{all_nailed, nailed_by_all}
-use Rattle.trace.specs.Lent.{contents}
+use Rattle.std.proofs.Common.{◌≡◌, arith}
+use Rattle.trace.specs.Collections.{nailed_by_all}
 use Rattle.trace.proofs.state.Tracer.nail_all.Goals as goal
 
 pub returns-clause-after : goal.returns-clause-after

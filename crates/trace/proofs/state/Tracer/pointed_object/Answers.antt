@@ -1,5 +1,4 @@
-use Rattle.std.proofs.Common.{sym, ap, ◌∙◌, arith}
-use Rattle.trace.specs.Collections.{base_of, pointed_in}
+use Rattle.std.proofs.Common.{sym, ◌∙◌, arith}
 use Rattle.trace.proofs.Pointing.{points_on, points_here}
 use Rattle.trace.proofs.state.Tracer.pointed_object.Goals as goal
 

@@ -1,5 +1,4 @@
-use Rattle.std.proofs.Common.{◌≡◌, ◌+◌, ◌-◌, sym, ap, ◌∙◌, arith, rules}
-use Rattle.trace.specs.Traces.{rounded}
+use Rattle.std.proofs.Common.{◌≡◌, ◌+◌, ◌-◌, sym, ◌∙◌, arith, rules}
 use Rattle.trace.specs.Lent.{contents}
 use Rattle.trace.proofs.Turns.{stop, more}
 use Rattle.trace.proofs.state.Tracer.rounds.Goals as goal

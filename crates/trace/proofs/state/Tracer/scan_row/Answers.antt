@@ -1,5 +1,5 @@
-use Rattle.std.proofs.Common.{ℕ, ◌-◌, ap, ◌∙◌, arith, rules}
-use Rattle.trace.specs.Traces.{Heap, scanned, walked}
+use Rattle.std.proofs.Common.{◌∙◌, arith, rules}
+use Rattle.trace.specs.Traces.{Heap, scanned}
 use Rattle.trace.specs.Collections.{end_at}
 use Rattle.trace.specs.Lent.{contents}
 use Rattle.trace.proofs.Walks.{turn, stood_ends}

@@ -1,5 +1,4 @@
-use Rattle.std.proofs.Common.{ap, ◌∙◌, add-one}
-use Rattle.trace.specs.Collections.{segment_swept}
+use Rattle.std.proofs.Common.{add-one}
 use Rattle.trace.proofs.state.Tracer.sweep_segments.Goals as goal
 
 pub loop-s-preserved : goal.loop-s-preserved
