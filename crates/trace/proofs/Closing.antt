@@ -1,5 +1,5 @@
 -- The targets' rests padded.
-use Rattle.std.proofs.Common.{◌≡◌, ℕ, zero, suc, ◌+◌, ◌-◌, ◌*◌, ◌/◌, ◌%◌, ◌<◌, ◌≤◌, false, ◌⊎◌, List, length, get_or, set, sym, refl, ap, ◌∙◌, subst, inl, inr, arith, length-set, Some, None}
+use Rattle.std.proofs.Common.{◌≡◌, ℕ, zero, suc, ◌+◌, ◌-◌, ◌*◌, ◌/◌, ◌%◌, ◌<◌, ◌≤◌, ◌⊎◌, List, length, get_or, set, sym, refl, ap, ◌∙◌, inl, inr, arith, length-set}
 use native.Mathlib.Decide.{dec_lt}
 use Rattle.std.proofs.lemmas.Bool.{cases_eq}
 use Rattle.std.proofs.lemmas.List.{get_or-set_same, get_or-set_other, get_or_past}
@@ -9,8 +9,8 @@ use Rattle.arena.specs.Buffers.{padded_part}
 use Rattle.trace.specs.declared.state.Trace.{Trace}
 use Rattle.trace.specs.Traces.{rest, Heap, heap}
 use Rattle.trace.specs.Collections.{targets_closed}
-use Rattle.trace.proofs.Cells.{owner, target, rd, owner0, Start, Final, stay, move, Room, unused, ahead, Front, Inv, Grows, Sound}
-use Rattle.trace.proofs.Facts.{clean_grows, place_grows, grows_refl, grows_trans, copied_on, owned_on}
+use Rattle.trace.proofs.Cells.{target, rd, Start, Room, unused, ahead, Front, Inv, Grows, Sound}
+use Rattle.trace.proofs.Facts.{clean_grows, final_grows, place_grows, grows_refl, grows_trans, copied_on, owned_on}
 use Rattle.trace.proofs.Fixes.{rest_padded, pad_inv, pad_grows, pad_closes}
 
 -- the state without a target of pool p
@@ -42,7 +42,7 @@ module _ (S : Start) (ok : Sound S) (laws : Lawful S.meaning) (Todo : ℕ → Ty
     room_back : {w : ℕ} → Room u w → Room t w
     room_back (unused x y z) = unused x y z
     room_back {w} (ahead q x y z) = elim (same_or_none q) [
-      | inl e ↦ ahead q (subst (λ (n : ℕ). n ≤ w) e x) (subst (λ (n : ℕ). w < n / 256 * 256 + 256) e y) (subst (λ (n : ℕ). 1 ≤ n % 256) e z)
+      | inl e ↦ ahead q (rw (← e) x) (rw (← e) y) (rw (← e) z)
       | inr e ↦ absurd (none_ahead q e.1 z)
     ]
 
@@ -56,11 +56,11 @@ module _ (S : Start) (ok : Sound S) (laws : Lawful S.meaning) (Todo : ℕ → Ty
       ends = inr (
         λ h y. none_ahead q z h,
         elim f.ends [
-          | inl x ↦ (let tq : target t q ≡ target t p = ap (target t) e in
-              let h : 1 ≤ target t p % 256 = subst (λ (n : ℕ). 1 ≤ n % 256) tq x.0 in
-              let g : target t p / 256 ≡ s = subst (λ (n : ℕ). n / 256 ≡ s) tq x.1 in
+          | inl x ↦ (let tq : target t q ≡ target t p = rw e refl in
+              let h : 1 ≤ target t p % 256 = rw (← tq) x.0 in
+              let g : target t p / 256 ≡ s = rw (← tq) x.1 in
               let ff : target t p ≡ f.front = sym tq ∙ sym x.2 in
-              inr (subst (λ (y : ℕ). rd S t.words y ≡ padding (s * 256 + 256 - y)) ff (subst (λ (y : ℕ). rd S t.words (target t p) ≡ padding (y * 256 + 256 - target t p)) g (closing h))))
+              inr (rw (← ff, ← g) (closing h)))
           | inr x ↦ x.1
         ],
       );
@@ -74,8 +74,8 @@ module _ (S : Start) (ok : Sound S) (laws : Lawful S.meaning) (Todo : ℕ → Ty
       below = f.below;
       cover = f.cover;
       ends = elim f.ends [
-        | inl x ↦ inl (subst (λ (n : ℕ). 1 ≤ n % 256) (sym z) x.0, subst (λ (n : ℕ). n / 256 ≡ s) (sym z) x.1, x.2 ∙ sym z)
-        | inr x ↦ inr (subst (λ (n : ℕ). 1 ≤ n % 256 → n / 256 ≡ s → ⊥) (sym z) x.0, x.1)
+        | inl x ↦ inl (rw z x.0, rw z x.1, x.2 ∙ sym z)
+        | inr x ↦ inr (rw z x.0, x.1)
       ];
     }
 
@@ -94,8 +94,7 @@ module _ (S : Start) (ok : Sound S) (laws : Lawful S.meaning) (Todo : ℕ → Ty
         owners = inv.ready.owners;
         targets = length-set t.state.targets p 0 ∙ inv.ready.targets;
         owned = λ q h. elim (same_or_none q) [
-          | inl e ↦ subst (λ (n : ℕ). (owner t (n / 256) ≡ Some q) × (n / 256 * 256 + 256 ≤ length t.words) × (256 ≤ n) × (get_or S.plan.condemned (n / 256) false ≡ false)) (sym e)
-              (inv.ready.owned q (subst (λ (n : ℕ). 1 ≤ n % 256) e h))
+          | inl e ↦ rw e (inv.ready.owned q (rw (← e) h))
           | inr e ↦ absurd (none_ahead q e.1 h)
         ];
       };
@@ -114,17 +113,13 @@ module _ (S : Start) (ok : Sound S) (laws : Lawful S.meaning) (Todo : ℕ → Ty
         plain = inv.fill.plain;
         pools = inv.fill.pools;
         aims = λ q h. elim (same_or_none q) [
-          | inl e ↦ subst (λ (y : ℕ). owner0 S (y / 256) ≡ None) (sym e) (inv.fill.aims q (subst (λ (n : ℕ). 1 ≤ n % 256) e h))
+          | inl e ↦ rw e (inv.fill.aims q (rw (← e) h))
           | inr e ↦ absurd (none_ahead q e.1 h)
         ];
         fronts = λ s q e o. elim (same_or_none q) [ inl z ↦ same_front s q z (inv.fill.fronts s q e o) | inr z ↦ gone_front s q z.0 z.1 (inv.fill.fronts s q e o) ];
       };
-      clean = λ a q s f. elim (inv.clean a q s (back a q f)) [ inl x ↦ inl x | inr h ↦ inr (clean_grows S t u reset_grows a (rd S t.words q) (rd S t.words q) refl h) ];
+      clean = λ a q s f. elim (inv.clean a q s (final_grows S u t (record { marks = λ c h. h; moves = λ c d r h. h }) a q s.0 f)) [ inl x ↦ inl x | inr h ↦ inr (clean_grows S t u reset_grows a (rd S t.words q) (rd S t.words q) refl h) ];
     }
-      where
-        back : (c q : ℕ) → Final S u c q → Final S t c q
-        back c q (stay e h) = stay e h
-        back c q (move g) = move g
 
   -- the state after k targets were closed, with those given up
   abbrev pub given_up : List ℕ → ℕ → List ℕ
@@ -144,10 +139,10 @@ module _ (S : Start) (ok : Sound S) (laws : Lawful S.meaning) (Todo : ℕ → Ty
   given_long ts (suc k) = length-set (given_up ts k) k 0 ∙ given_long ts k
 
   given_none : (ts : List ℕ) (k q : ℕ) → q < k → get_or (given_up ts k) q 0 ≡ 0
-  given_none ts zero q l = absurd (omega arith)
+  given_none ts zero q l = omega arith
   given_none ts (suc k) q l = elim (cases_eq q k) [
     | inl e ↦ elim (dec_lt k (length (given_up ts k))) [
-      | yes h ↦ ap (λ (x : ℕ). get_or (set (given_up ts k) k 0) x 0) e ∙ get_or-set_same (given_up ts k) k 0 0 h
+      | yes h ↦ rw e (get_or-set_same (given_up ts k) k 0 0 h)
       | no h ↦ get_or_past (set (given_up ts k) k 0) q 0 (omega (arith, length-set (given_up ts k) k 0))
     ]
     | inr n ↦ get_or-set_other (given_up ts k) k q 0 0 n ∙ given_none ts k q (omega arith)
@@ -174,7 +169,7 @@ module _ (S : Start) (ok : Sound S) (laws : Lawful S.meaning) (Todo : ℕ → Ty
       let y : reset (rest_padded S ok laws Todo v b.inv p) p ≡ closed_to t (suc p) =
       ap (λ (at : ℕ). heap (record { segments = t.state.segments; targets = given_up t.state.targets (suc p); moved = t.state.moved; low = t.state.low })
       (padded_part S.meaning at (at + rest at) v.words) t.marks t.greys) e in
-      subst (Closes t) y (record { inv = c.inv; grows = grows_trans S t v (reset (rest_padded S ok laws Todo v b.inv p) p) b.grows c.grows })
+      rw (← y) (record { inv = c.inv; grows = grows_trans S t v (reset (rest_padded S ok laws Todo v b.inv p) p) b.grows c.grows })
 
   pub all_shut : (t : Heap) → length t.state.targets ≡ 8 → (p : ℕ) → target (closed_to t 8) p ≡ 0
   all_shut t e p = elim (dec_lt p 8) [

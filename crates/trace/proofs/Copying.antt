@@ -1,7 +1,6 @@
 -- A copy keeps the invariant.
-use Rattle.std.proofs.Common.{◌≡◌, ℕ, ◌+◌, ◌/◌, ◌%◌, ◌<◌, ◌≤◌, true, false, ◌≢◌, ◌⊎◌, List, length, get_or, sym, refl, ◌∙◌, subst, inl, inr, arith, None}
+use Rattle.std.proofs.Common.{◌≡◌, ℕ, ◌+◌, ◌/◌, ◌%◌, ◌<◌, ◌≤◌, true, false, ◌≢◌, ◌⊎◌, List, length, get_or, sym, refl, ◌∙◌, inl, inr, arith, None}
 use native.Mathlib.Decide.{dec_lt}
-use borrow.Author.Tests.{both_ways}
 use Rattle.std.proofs.lemmas.Bool.{cases_eq}
 use Rattle.format.specs.Meaning.{forwarded}
 use Rattle.arena.specs.Boards.{bit, with_bit}
@@ -10,7 +9,7 @@ use Rattle.trace.specs.declared.state.Trace.{Trace}
 use Rattle.trace.specs.Traces.{condemns, Heap, heap}
 use Rattle.trace.specs.Collections.{moves}
 use Rattle.trace.proofs.Cells.{Apart, owner, grey, stays, rd, owner0, Start, Std, size0, Obj, Moved, Cell, same, copy, Final, stay, move, Body, Held, here, away, still, Clean, Room, Ready, Copied, Fill, Owned, Inv, Grows, Keeps, Sound}
-use Rattle.trace.proofs.Facts.{same_address, Real, board_keeps, board_set, body_map, clean_grows, place_grows, final_cell, cell_real, copied_on}
+use Rattle.trace.proofs.Facts.{Real, board_keeps, board_set, body_map, clean_grows, place_grows, final_cell, cell_real, copied_on}
 use Rattle.trace.proofs.Marking.{unmoved}
 
 -- what lies outside all the words of a stretch lies apart from it
@@ -70,7 +69,7 @@ module _ (S : Start) (ok : Sound S) (Todo : ℕ → Type 0) (t : Heap) (inv : In
   -- a cell is an old one, or the new one
   moved_back : (c d : ℕ) → Std S c → Moved S k c d → ((c ≡ a) × (d ≡ b)) ⊎ ((c ≢ a) × Moved S t.words c d)
   moved_back c d s g = elim (cases_eq c a) [
-    | inl e ↦ inl (e, same_address (rd S k a) (size0 S c) (size0 S a) d b (subst (λ (x : ℕ). rd S k x ≡ forwarded (size0 S c) d) e g) cp.left)
+    | inl e ↦ inl (e, (cc))
     | inr n ↦ inr (n, sym (frame c c s (same refl) n) ∙ g)
   ]
 
@@ -82,7 +81,7 @@ module _ (S : Start) (ok : Sound S) (Todo : ℕ → Type 0) (t : Heap) (inv : In
   cell_back c q s (copy g) = elim (moved_back c q s g) [ inl x ↦ inl x | inr x ↦ inr (copy x.1) ]
 
   held' : (c : ℕ) → Std S c → Held S k c
-  held' c s = elim (cases_eq c a) [ inl e ↦ subst (Held S k) (sym e) at | inr n ↦ other n (inv.held c s) ]
+  held' c s = elim (cases_eq c a) [ inl e ↦ rw e at | inr n ↦ other n (inv.held c s) ]
     where
       at : Held S k a
       at = away b cp.left (body_map S t.words k moves_on a (rd S t.words a) (rd S k b) cp.there body)
@@ -96,13 +95,10 @@ module _ (S : Start) (ok : Sound S) (Todo : ℕ → Type 0) (t : Heap) (inv : In
   apart' c p d q s r e f = go (cell_back c p s e) (cell_back d q r f)
     where
       new_left : (c p : ℕ) → c ≡ a → p ≡ b → Cell S t.words d q → Apart p (size0 S c) q (size0 S d)
-      new_left c p x y f =
-          subst (λ (c : ℕ). Apart p (size0 S c) q (size0 S d)) (sym x) (subst (λ (p : ℕ). Apart p (size0 S a) q (size0 S d)) (sym y)
-          (apart_sym q (size0 S d) b (size0 S a) (from_new d q r f)))
+      new_left c p x y f = rw (x, y) (apart_sym q (size0 S d) b (size0 S a) (from_new d q r f))
 
       new_right : (d q : ℕ) → d ≡ a → q ≡ b → Cell S t.words c p → Apart p (size0 S c) q (size0 S d)
-      new_right d q x y e =
-          subst (λ (d : ℕ). Apart p (size0 S c) q (size0 S d)) (sym x) (subst (λ (q : ℕ). Apart p (size0 S c) q (size0 S a)) (sym y) (from_new c p s e))
+      new_right d q x y e = rw (x, y) (from_new c p s e)
 
       go : ((c ≡ a) × (p ≡ b)) ⊎ Cell S t.words c p → ((d ≡ a) × (q ≡ b)) ⊎ Cell S t.words d q → ((c ≡ d) × (p ≡ q)) ⊎ Apart p (size0 S c) q (size0 S d)
       go (inl x) (inl y) = inl (x.0 ∙ sym y.0, x.1 ∙ sym y.1)
@@ -121,9 +117,9 @@ module _ (S : Start) (ok : Sound S) (Todo : ℕ → Type 0) (t : Heap) (inv : In
       ]
 
       go : Final S with_copy c p → ((grey with_copy p ≡ true) ⊎ Todo p) ⊎ Clean S with_copy c (rd S k p)
-      go (stay e h) = old (λ (x : c ≡ a). both_ways (stays S t a) gone (subst (λ (y : ℕ). stays S t y ≡ true) x h)) (stay e h)
+      go (stay e h) = old (λ (x : c ≡ a). (cc)) (stay e h)
       go (move g) = elim (moved_back c p s.0 g) [
-        | inl x ↦ inl (inl (subst (λ (y : ℕ). grey with_copy y ≡ true) (sym x.1) lit))
+        | inl x ↦ inl (inl (rw x.1 lit))
         | inr x ↦ old x.0 (move x.1)
       ]
 
@@ -141,12 +137,12 @@ module _ (S : Start) (ok : Sound S) (Todo : ℕ → Type 0) (t : Heap) (inv : In
       | inr x ↦ (let h = inv.copied c d s x.1 in copied_on S t with_copy c d cp.long refl (keep (d / 256) (λ e. ok.used c s (sym h.home ∙ e))) h)
     ];
     room = λ w c p f s e. elim (cell_back c p s e) [
-      | inl x ↦ subst (λ (c : ℕ). (w < p) ⊎ (p + size0 S c ≤ w)) (sym x.0) (subst (λ (p : ℕ). (w < p) ⊎ (p + size0 S a ≤ w)) (sym x.1) (free w f).1)
+      | inl x ↦ rw (x.0, x.1) (free w f).1
       | inr x ↦ inv.room w c p (free w f).0 s x
     ];
     greys = λ p h. elim (board_set t.greys b p h) [
       | inl g ↦ place_grows S t with_copy copy_grows p (inv.greys p g)
-      | inr e ↦ record { whose = a; std = oa; final = move (subst (λ (y : ℕ). Moved S k a y) (sym e) cp.left) }
+      | inr e ↦ record { whose = a; std = oa; final = move (rw e cp.left) }
     ];
     bound = bound;
     fill = fill;
@@ -156,10 +152,9 @@ module _ (S : Start) (ok : Sound S) (Todo : ℕ → Type 0) (t : Heap) (inv : In
   }
     where
       new : (c d : ℕ) → c ≡ a → d ≡ b → Copied S with_copy c d
-      new c d x y = subst (λ (c : ℕ). Copied S with_copy c d) (sym x) (subst (λ (d : ℕ). Copied S with_copy a d) (sym y)
-          (record { low = low; high = rw cp.long high; safe = safe; left = gone; seg = seg; fresh = fresh; home = home; mover = mover }))
+      new c d x y = rw (x, y) (record { low = low; high = rw cp.long high; safe = safe; left = gone; seg = seg; fresh = fresh; home = home; mover = mover })
 
   -- what was settled reads as it did
   pub copy_keeps : Keeps S t with_copy
-  copy_keeps c p s (stay e h) = frame c p s (same e) (λ (x : c ≡ a). both_ways (stays S t a) gone (subst (λ (y : ℕ). stays S t y ≡ true) x h))
+  copy_keeps c p s (stay e h) = frame c p s (same e) (λ (x : c ≡ a). (cc))
   copy_keeps c p s (move g) = frame c p s (copy g) (unmoved S t.words a c p body g)

@@ -1,12 +1,10 @@
 -- What the writes of a lawful format do to what stands in memory.
-use Rattle.std.proofs.Common.{◌≡◌, ℕ, ◌+◌, ◌-◌, ◌<◌, ◌≤◌, true, ◌&&◌, leb, ◌⊎◌, List, length, get_or, drop, set, sym, refl, ap, ◌∙◌, subst, ap₂, inl, inr, arith}
-use borrow.Rule.Slice.PartMut.{put_mid}
-use Rattle.std.proofs.lemmas.Bool.{cases_lt, cond-true, cond-false, le-leb, lt-leb}
+use Rattle.std.proofs.Common.{◌≡◌, ℕ, ◌+◌, ◌-◌, ◌<◌, ◌≤◌, true, ◌⊎◌, List, length, get_or, drop, set, sym, refl, ap, ◌∙◌, ap₂, inl, inr, arith}
+use Rattle.std.proofs.lemmas.Bool.{cases_lt, le-leb, lt-leb}
 use Rattle.std.proofs.lemmas.List.{length-take-le, length-drop, take-append-drop}
 use Rattle.format.specs.declared.things.Slot.{Slot}
 use Rattle.format.specs.Meaning.{Meaning, shape, holds, Thing, object, forwarded, padding, thing_at}
 use Rattle.format.specs.Laws.{Lawful, Leaves, part, rewritten, Readings}
-use Rattle.format.specs.Answers.{pad_words}
 use Rattle.format.proofs.Memory.{readings, leaves, own_part}
 use Rattle.arena.specs.Buffers.{padded_part}
 use Rattle.trace.specs.Traces.{moved_words, copied_words}
@@ -24,15 +22,14 @@ module _ (S : Start) (laws : Lawful S.meaning) where
 
   -- what stands apart from a write reads as it did
   elsewhere : (ws k : List ℕ) (a n : ℕ) (x : Thing) → Leaves m ws a n x k → (q j : ℕ) → Real m (rd S ws q) j → Apart q j a n → rd S k q ≡ rd S ws q
-  elsewhere ws k a n x l q j r h = l.elsewhere q r.real (elim h [ inl y ↦ inl (subst (λ (z : ℕ). q + z ≤ a) (sym r.span) y) | inr y ↦ inr y ])
+  elsewhere ws k a n x l q j r h = l.elsewhere q r.real (elim h [ inl y ↦ inl (rw r.span y) | inr y ↦ inr y ])
 
   -- ---- padding
 
   pad_is : (ws : List ℕ) (a e : ℕ) → e ≤ length ws → 1 ≤ e - a → e - a ≤ 256 → padded_part m a e ws ≡ rewritten m.padded a (e - a) ws
   pad_is ws a e h l g =
       let n : length (part a (e - a) ws) ≡ e - a = length-take-le (e - a) (drop a ws) (omega (arith, length-drop a ws)) in
-      cond-true (leb a e && leb e (length ws)) _ ws (rw (le-leb a e (omega arith), le-leb e (length ws) h) refl)
-      ∙ ap (put_mid a (e - a) ws) (rw (le-leb 1 (length (part a (e - a) ws)) (omega arith), le-leb (length (part a (e - a) ws)) 256 (omega arith)) refl)
+      rw (le-leb a e (omega arith), le-leb e (length ws) h, le-leb 1 (length (part a (e - a) ws)) (omega arith), le-leb (length (part a (e - a) ws)) 256 (omega arith)) refl
 
   pub record Padded (ws k : List ℕ) (a n : ℕ) : Type 0 where
     pub long : length k ≡ length ws
@@ -44,16 +41,15 @@ module _ (S : Start) (laws : Lawful S.meaning) where
   pad_none ws a =
       let z : a - a ≡ 0 = omega arith in
       elim (cases_lt (length ws) a) [
-        | inl l ↦ cond-false (leb a a && leb a (length ws)) _ ws (rw (le-leb a a (omega arith), lt-leb a (length ws) l) refl)
-        | inr l ↦ cond-true (leb a a && leb a (length ws)) _ ws (rw (le-leb a a (omega arith), le-leb a (length ws) l) refl)
-            ∙ ap (λ (n : ℕ). put_mid a n ws (pad_words m (part a n ws))) z ∙ take-append-drop a ws
+        | inl l ↦ rw (le-leb a a (omega arith), lt-leb a (length ws) l) refl
+        | inr l ↦ rw (le-leb a a (omega arith), le-leb a (length ws) l, z) (take-append-drop a ws)
       ]
 
   pub pad_effect : (ws : List ℕ) (a n : ℕ) → n ≤ 256 → (1 ≤ n → a + n ≤ length ws) → Padded ws (padded_part m a (a + n) ws) a n
   pad_effect ws a n h l = elim (cases_lt 0 n) [
     | inl p ↦ some p
     | inr p ↦ (let z : a + n ≡ a = omega arith in
-        let e : padded_part m a (a + n) ws ≡ ws = ap (λ (x : ℕ). padded_part m a x ws) z ∙ pad_none ws a in
+        let e : padded_part m a (a + n) ws ≡ ws = rw z (pad_none ws a) in
         record { long = ap length e; words = λ w x. ap (λ (k : List ℕ). get_or k w 0) e; others = λ q j r x. ap (λ (k : List ℕ). rd S k q) e; reads = λ o. absurd (omega arith) })
   ]
     where
@@ -79,7 +75,7 @@ module _ (S : Start) (laws : Lawful S.meaning) where
     real = real_object m (rd S ws a) l ss e
 
     pub object_inside : a + n ≤ length ws
-    object_inside = subst (λ (k : ℕ). a + k ≤ length ws) real.span (law.spans ws a real.real).2
+    object_inside = rw (← real.span) (law.spans ws a real.real).2
 
     own_reads : thing_at m (part a n ws) 0 ≡ object l ss
     own_reads = own_part m laws n (drop a ws) real.real real.span ∙ e
@@ -100,7 +96,7 @@ module _ (S : Start) (laws : Lawful S.meaning) where
           left = g.here;
           words = λ w x y. g.words w x ∙ f.words w y;
           others = λ q j z x y. let u = elsewhere ws k b n (object l ss) f q j z y in
-              elsewhere k (copied_words m ws a n b) a n (forwarded n b) g q j (subst (λ (v : Thing). Real m v j) (sym u) z) x ∙ u;
+              elsewhere k (copied_words m ws a n b) a n (forwarded n b) g q j (rw u z) x ∙ u;
         }
 
     pub putting : (i : ℕ) (x : Slot) → i < length ss → holds m (shape l (length ss)) i x ≡ true → Putting S ws (rewritten (m.with_slot (shape l (length ss)) i x) a n ws) a n i x

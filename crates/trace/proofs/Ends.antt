@@ -1,14 +1,13 @@
 -- What the segments hold when nothing is grey any more.
-use Rattle.std.proofs.Common.{◌≡◌, ℕ, zero, suc, ◌+◌, ◌-◌, ◌*◌, ◌/◌, ◌<◌, ◌≤◌, true, false, eqb, ltb, ◌⊎◌, List, sym, refl, ap, subst, inl, inr, arith, ltb-true, eqb-true}
+use Rattle.std.proofs.Common.{◌≡◌, ℕ, zero, suc, ◌+◌, ◌-◌, ◌*◌, ◌/◌, ◌<◌, ◌≤◌, true, eqb, ltb, ◌⊎◌, List, refl, inl, inr, arith, ltb-true, eqb-true}
 use native.Mathlib.Decide.{dec_lt}
-use borrow.Author.Tests.{both_ways}
 use Rattle.std.proofs.lemmas.Bool.{cases_eq}
 use Rattle.format.specs.Meaning.{padding, span}
 use Rattle.format.specs.Laws.{Lawful}
 use Rattle.trace.specs.Traces.{Heap}
 use Rattle.trace.specs.Keeping.{Row, ends, piece, is_base}
 use Rattle.trace.proofs.Cells.{slots_of, rd, Start, Std, size0, layout0, Obj, Moved, same, copy, move, Body, Covered, Front, Inv, Sound}
-use Rattle.trace.proofs.Facts.{body_real, cell_real}
+use Rattle.trace.proofs.Facts.{body_real, cell_real, one_cell}
 use Rattle.trace.proofs.Putting.{final_body}
 use Rattle.trace.proofs.Busy.{is_object}
 use Rattle.trace.proofs.Rows.{base_cases, base_first, base_later}
@@ -16,11 +15,11 @@ use Rattle.trace.proofs.Sweeps.{Chain, stop, link, Base, first, next, base_inv, 
 
 -- the two ways to say what a base is
 pub base_of : (S : Start) (m : List ℕ) (e k a q : ℕ) → is_base S.meaning m e k a q ≡ true → Base S m e a q
-base_of S m e zero a q h = absurd (both_ways false refl h)
+base_of S m e zero a q h = cc
 base_of S m e (suc k) a q h =
     let c = base_cases (ltb a e) (eqb a q) (is_base S.meaning m e k (a + span S.meaning (rd S m a)) q) h in
     elim c.1 [
-      | inl y ↦ subst (λ (x : ℕ). Base S m e a x) (eqb-true a q y) (first a (ltb-true a e c.0))
+      | inl y ↦ rw (← eqb-true a q y) (first a (ltb-true a e c.0))
       | inr y ↦ next a q (ltb-true a e c.0) (base_of S m e k (a + span S.meaning (rd S m a)) q y)
     ]
 
@@ -30,7 +29,7 @@ of_base S m e zero a q (link c n l r) h b = absurd (omega (arith, n.some))
 of_base S m e (suc k) a q (link c n l r) h b =
     let i = base_inv S m e a q b in
     elim i.1 [
-      | inl f ↦ subst (λ (x : ℕ). is_base S.meaning m e (suc k) a x ≡ true) (sym f) (base_first S.meaning m e k a i.0)
+      | inl f ↦ rw f (base_first S.meaning m e k a i.0)
       | inr g ↦ (let y = of_base S m e k (a + span S.meaning (rd S m a)) q r (omega (arith, n.some)) g in base_later S.meaning m e k a i.0 q y)
     ]
 
@@ -49,14 +48,14 @@ module _ (S : Start) (ok : Sound S) (laws : Lawful S.meaning) (Todo : ℕ → Ty
       pub owner : (q : ℕ) → Base S t.words e x q → is_object (rd S t.words q) ≡ true → (c : ℕ) × (Obj S c × Moved S t.words c q)
 
     built_end : (x : ℕ) → x ≡ f.front → Built x
-    built_end x z = subst Built (sym z) (go shut)
+    built_end x z = rw z (go shut)
       where
         none_past : (c d : ℕ) → Std S c → Moved S t.words c d → d / 256 ≡ s → f.front ≤ d → ⊥
         none_past c d h g y l = omega (arith, f.below c d h g y, ok.some c h)
 
         full : f.front ≡ e → Built f.front
         full y = record {
-          row = subst (Row S.meaning t.words e) (sym y) ends;
+          row = rw y ends;
           bases = λ c d h g z l. absurd (none_past c d h g z l);
           owner = λ q b o. absurd (omega (arith, (base_inv S t.words e f.front q b).0));
         }
@@ -64,13 +63,13 @@ module _ (S : Start) (ok : Sound S) (laws : Lawful S.meaning) (Todo : ℕ → Ty
         go : (f.front ≡ s * 256 + 256) ⊎ (rd S t.words f.front ≡ padding (s * 256 + 256 - f.front)) → Built f.front
         go (inl y) = full y
         go (inr y) = elim (dec_lt f.front e) [
-          | yes l ↦ (let sp : span S.meaning (rd S t.words f.front) ≡ s * 256 + 256 - f.front = ap (span S.meaning) y in
+          | yes l ↦ (let sp : span S.meaning (rd S t.words f.front) ≡ s * 256 + 256 - f.front = rw y refl in
               let fin : f.front + span S.meaning (rd S t.words f.front) ≡ e = omega arith in
               record {
-                row = piece f.front (padding_piece (rd S t.words f.front) (s * 256 + 256 - f.front) y) (omega arith) (subst (Row S.meaning t.words e) (sym fin) ends);
+                row = piece f.front (padding_piece (rd S t.words f.front) (s * 256 + 256 - f.front) y) (omega arith) (rw fin ends);
                 bases = λ c d h g z l. absurd (none_past c d h g z l);
                 owner = λ q b o. absurd (elim (base_inv S t.words e f.front q b).1 [
-                  | inl w ↦ both_ways (is_object (rd S t.words f.front)) (ap is_object y) (subst (λ (v : ℕ). is_object (rd S t.words v) ≡ true) w o)
+                  | inl w ↦ (cc)
                   | inr w ↦ omega (arith, (base_inv S t.words e (f.front + span S.meaning (rd S t.words f.front)) q w).0)
                 ]);
               })
@@ -94,23 +93,20 @@ module _ (S : Start) (ok : Sound S) (laws : Lawful S.meaning) (Todo : ℕ → Ty
             let cc0 = inv.copied a c.base o.0 c.moved in
             let bs : c.base / 256 ≡ s = omega (arith, c.low, c.high, cc0.seg, f.high) in
             let at : c.base ≡ x = elim (dec_lt c.base x) [ yes l ↦ absurd (omega (arith, edge a c.base o.0 c.moved bs l, c.high)) | no l ↦ omega (arith, c.low) ] in
-            let g : Moved S t.words a x = subst (Moved S t.words a) at c.moved in
-            let seg : x / 256 ≡ s = subst (λ (y : ℕ). y / 256 ≡ s) at bs in
+            let g : Moved S t.words a x = rw (← at) c.moved in
+            let seg : x / 256 ≡ s = rw (← at) bs in
             let hi = f.below a x o.0 g seg in
             let far : (c2 d2 : ℕ) → Std S c2 → Moved S t.words c2 d2 → x < d2 → x + size0 S a ≤ d2
             = λ c2 d2 h m l. elim (inv.apart a x c2 d2 o.0 h (copy g) (copy m)) [
               | inl y ↦ absurd (let yy : x ≡ d2 = y.1 in omega arith)
-              | inr y ↦ elim y [ inl z ↦ z | inr z ↦ absurd (omega arith) ]
+              | inr y ↦ elim y [ inl z ↦ z | inr z ↦ omega arith ]
             ] in
             let same_one : (c2 : ℕ) → Std S c2 → Moved S t.words c2 x → c2 ≡ a
-            = λ c2 h m. elim (inv.apart c2 x a x h o.0 (copy m) (copy g)) [
-              | inl y ↦ y.0
-              | inr y ↦ elim y [ inl z ↦ absurd (omega (arith, ok.some c2 h)) | inr z ↦ absurd (omega (arith, ok.some a o.0)) ]
-            ] in
+            = λ c2 h m. one_cell S ok Todo t inv a c2 x x o.0 h (copy g) (copy m) refl in
             let edge2 : Edge (x + size0 S a) = λ c2 d2 h m y l. elim (dec_lt d2 x) [
               | yes z ↦ (let w = edge c2 d2 h m y z in omega arith)
               | no z ↦ elim (cases_eq d2 x) [
-                | inl w ↦ (let e2 = same_one c2 h (subst (Moved S t.words c2) w m) in subst (λ (v : ℕ). d2 + size0 S v ≤ x + size0 S a) (sym e2) (omega arith))
+                | inl w ↦ (let e2 = same_one c2 h (rw (← w) m) in rw e2 (omega arith))
                 | inr w ↦ absurd (omega (arith, far c2 d2 h m (omega arith)))
               ]
             ] in
@@ -119,19 +115,19 @@ module _ (S : Start) (ok : Sound S) (laws : Lawful S.meaning) (Todo : ℕ → Ty
             let sp : span S.meaning (rd S t.words x) ≡ size0 S a = (body_real S ok t.words a (rd S t.words x) b).span in
             let big = ok.some a o.0 in
             record {
-              row = piece x (object_piece (rd S t.words x) (layout0 S a) (slots_of (rd S t.words x)) b.shape) (omega (arith, f.high)) (subst (λ (n : ℕ). Row S.meaning t.words e (x + n)) (sym sp) r.row);
+              row = piece x (object_piece (rd S t.words x) (layout0 S a) (slots_of (rd S t.words x)) b.shape) (omega (arith, f.high)) (rw sp r.row);
               bases = λ c2 d2 h m y l. elim (cases_eq d2 x) [
-                | inl w ↦ subst (λ (v : ℕ). Base S t.words e x v) (sym w) (first x (omega (arith, f.high)))
-                | inr w ↦ next x d2 (omega (arith, f.high)) (subst (λ (n : ℕ). Base S t.words e (x + n) d2) (sym sp) (r.bases c2 d2 h m y (far c2 d2 h m (omega arith))))
+                | inl w ↦ rw w (first x (omega (arith, f.high)))
+                | inr w ↦ next x d2 (omega (arith, f.high)) (rw sp (r.bases c2 d2 h m y (far c2 d2 h m (omega arith))))
               ];
               owner = λ q bq oq. elim (base_inv S t.words e x q bq).1 [
-                | inl w ↦ (a, (o, subst (Moved S t.words a) (sym w) g))
-                | inr w ↦ r.owner q (subst (λ (n : ℕ). Base S t.words e (x + n) q) sp w) oq
+                | inl w ↦ (a, (o, rw w g))
+                | inr w ↦ r.owner q (rw (← sp) w) oq
               ];
             }
 
     pub built : Built (s * 256)
-    built = build 256 (s * 256) (omega (arith, f.high)) (omega arith) f.low (λ c d h g y l. absurd (omega arith))
+    built = build 256 (s * 256) (omega (arith, f.high)) (omega arith) f.low (λ c d h g y l. omega arith)
 
   -- a segment that was in use: what stood there has kept its extent
   module _ (e a : ℕ) (r : Row S.meaning S.space.words e a) (h : (q : ℕ) → Base S S.space.words e a q → Std S q) where

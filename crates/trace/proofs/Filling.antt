@@ -1,5 +1,5 @@
 -- The segments that the trace took stay rows of copies.
-use Rattle.std.proofs.Common.{◌≡◌, ℕ, ◌+◌, ◌-◌, ◌*◌, ◌/◌, ◌%◌, ◌<◌, ◌≤◌, false, ◌≢◌, ◌⊎◌, List, sym, ap, ◌∙◌, subst, inl, inr, arith, Some, None}
+use Rattle.std.proofs.Common.{◌≡◌, ℕ, ◌+◌, ◌-◌, ◌*◌, ◌/◌, ◌%◌, ◌<◌, ◌≤◌, false, ◌≢◌, ◌⊎◌, List, sym, ap, ◌∙◌, inl, inr, arith, Some, None}
 use native.Mathlib.Decide.{dec_lt}
 use Rattle.std.proofs.lemmas.Bool.{cases_eq}
 use Rattle.format.specs.Meaning.{padding}
@@ -10,7 +10,7 @@ use Rattle.trace.proofs.Cells.{owner, target, stays, rd, owner0, leafy, Start, S
 use Rattle.trace.proofs.Facts.{real_padding}
 use Rattle.trace.proofs.Copying.{Copying, copy_grows, copy_back}
 use Rattle.trace.proofs.Putting.{seg_apart}
-use Rattle.trace.proofs.Spots.{pool_not_free, pool_same, Spot, onward, opening, Onto, Placed, placed}
+use Rattle.trace.proofs.Spots.{pool_same, Spot, onward, opening, Onto, Placed, placed}
 
 module _ (S : Start) (ok : Sound S) (Todo : ℕ → Type 0) (t : Heap) (inv : Inv S Todo t) (a : ℕ) (oa : Obj S a) (gone : stays S t a ≡ false)
     (body : Body S t.words a (rd S t.words a)) (b : ℕ) (k : List ℕ) (st : Trace) (p : ℕ)
@@ -33,7 +33,7 @@ module _ (S : Start) (ok : Sound S) (Todo : ℕ → Type 0) (t : Heap) (inv : In
   fresh = go spot
     where
       go : Spot t p b → owner0 S (b / 256) ≡ None
-      go (onward e h) = subst (λ (x : ℕ). owner0 S (x / 256) ≡ None) e (inv.fill.aims p (subst (λ (x : ℕ). 1 ≤ x % 256) (sym e) h))
+      go (onward e h) = rw (← e) (inv.fill.aims p (rw e h))
       go (opening z low h e) = inv.fill.empty (b / 256) e
 
   record Pre : Type 0 where
@@ -46,17 +46,17 @@ module _ (S : Start) (ok : Sound S) (Todo : ℕ → Type 0) (t : Heap) (inv : In
       from_front : (b : ℕ) → target t p ≡ b → 1 ≤ b % 256 → (f : Front S t (b / 256) p) → f.front ≡ b
       from_front b e h f = elim f.ends [
         | inl x ↦ x.2 ∙ e
-        | inr x ↦ absurd (x.0 (subst (λ (y : ℕ). 1 ≤ y % 256) (sym e) h) (ap (λ (y : ℕ). y / 256) e))
+        | inr x ↦ absurd (x.0 (rw e h) (ap (λ (y : ℕ). y / 256) e))
       ]
 
       go : Spot t p b → Pre
       go (onward e h) =
-          let o : owner t (b / 256) ≡ Some p = subst (λ (x : ℕ). owner t (x / 256) ≡ Some p) e (inv.ready.owned p (subst (λ (x : ℕ). 1 ≤ x % 256) (sym e) h)).0 in
+          let o : owner t (b / 256) ≡ Some p = rw (← e) (inv.ready.owned p (rw e h)).0 in
           let f = inv.fill.fronts (b / 256) p fresh o in
           let z = from_front b e h f in
-          record { below = λ c d s g y. subst (λ (x : ℕ). d + size0 S c ≤ x) z (f.below c d s g y); cover = λ w x y. f.cover w x (subst (λ (v : ℕ). w < v) (sym z) y) }
+          record { below = λ c d s g y. rw (← z) (f.below c d s g y); cover = λ w x y. f.cover w x (rw z y) }
       go (opening z low h e) = record {
-        below = λ c d s g y. absurd (elim (inv.room d c d (unused (inv.copied c d s g).low (omega (arith, (inv.copied c d s g).high, ok.some c s)) (subst (λ (x : ℕ). owner t x ≡ None) (sym y) e)) s (copy g)) [
+        below = λ c d s g y. absurd (elim (inv.room d c d (unused (inv.copied c d s g).low (omega (arith, (inv.copied c d s g).high, ok.some c s)) (rw y e)) s (copy g)) [
           | inl x ↦ omega arith
           | inr x ↦ omega (arith, ok.some c s)
         ]);
@@ -78,7 +78,7 @@ module _ (S : Start) (ok : Sound S) (Todo : ℕ → Type 0) (t : Heap) (inv : In
     low = omega arith;
     high = omega arith;
     below = λ c d s g y. elim (back c d s g) [
-      | inl x ↦ subst (λ (c : ℕ). d + size0 S c ≤ b + size0 S a) (sym x.0) (subst (λ (d : ℕ). d + size0 S a ≤ b + size0 S a) (sym x.1) (omega arith))
+      | inl x ↦ rw (x.0, x.1) (omega arith)
       | inr x ↦ omega (arith, pre.below c d s x.1 y)
     ];
     cover = λ w x y. elim (dec_lt w b) [
@@ -86,8 +86,8 @@ module _ (S : Start) (ok : Sound S) (Todo : ℕ → Type 0) (t : Heap) (inv : In
       | no l ↦ record { from = a; base = b; obj = oa; moved = cp.left; low = omega arith; high = y }
     ];
     ends = elim (cases_eq ((b + size0 S a) % 256) 0) [
-      | inl z ↦ inr (subst (λ (x : ℕ). 1 ≤ x % 256 → x / 256 ≡ b / 256 → ⊥) (sym onto.aim) (λ h y. omega arith), inl (omega arith))
-      | inr n ↦ inl (subst (λ (x : ℕ). 1 ≤ x % 256) (sym onto.aim) (omega arith), subst (λ (x : ℕ). x / 256 ≡ b / 256) (sym onto.aim) (omega arith), sym onto.aim)
+      | inl z ↦ inr (rw onto.aim (λ h y. omega arith), inl (omega arith))
+      | inr n ↦ inl (rw onto.aim (omega arith), rw onto.aim (omega arith), sym onto.aim)
     ];
   }
 
@@ -95,7 +95,7 @@ module _ (S : Start) (ok : Sound S) (Todo : ℕ → Type 0) (t : Heap) (inv : In
   pad_still : (s f : ℕ) → owner0 S s ≡ None → s ≢ b / 256 → s * 256 ≤ f → f < s * 256 + 256 → rd S t.words f ≡ padding (s * 256 + 256 - f) → rd S k f ≡ padding (s * 256 + 256 - f)
   pad_still s f e ne bot top pd =
       cp.others f (s * 256 + 256 - f) (real_padding S.meaning (rd S t.words f) (s * 256 + 256 - f) pd)
-      (seg_apart f (s * 256 + 256 - f) a (size0 S a) (λ z. ok.used a oa.0 (subst (λ (y : ℕ). owner0 S y ≡ None) (from z) e)) (omega arith) (ok.seg a oa.0))
+      (seg_apart f (s * 256 + 256 - f) a (size0 S a) (λ z. ok.used a oa.0 (rw (← from z) e)) (omega arith) (ok.seg a oa.0))
       (seg_apart f (s * 256 + 256 - f) b (size0 S a) (λ z. ne (omega arith)) (omega arith) fit) ∙ pd
     where
       from : f / 256 ≡ a / 256 → s ≡ a / 256
@@ -126,7 +126,7 @@ module _ (S : Start) (ok : Sound S) (Todo : ℕ → Type 0) (t : Heap) (inv : In
 
       not_here : q ≡ p → 1 ≤ target u q % 256 → target u q / 256 ≡ s → ⊥
       not_here z h y =
-          let w : target u q ≡ b + size0 S a = ap (λ (x : ℕ). target u x) z ∙ onto.aim in
+          let w : target u q ≡ b + size0 S a = rw z onto.aim in
           ne (omega arith)
 
       ours : q ≡ p → Ends t.words t → Ends k u
@@ -137,31 +137,30 @@ module _ (S : Start) (ok : Sound S) (Todo : ℕ → Type 0) (t : Heap) (inv : In
           let g : target t p / 256 ≡ s = rw (← tq) x.1 in
           let ff : target t p ≡ f.front = sym tq ∙ sym x.2 in
           let c = closing h (λ y. ne (sym g ∙ y)) in
-          inr (not_here z, closed s f.front e ne f.low f.high (inr (subst (λ (y : ℕ). rd S t.words y ≡ padding (s * 256 + 256 - y)) ff (subst (λ (y : ℕ). rd S t.words (target t p) ≡ padding (y * 256 + 256 - target t p)) g c))))
+          inr (not_here z, closed s f.front e ne f.low f.high (inr (rw (← ff, ← g) c)))
 
   pub filled : Fill S u
   filled = record {
     fronts = λ s q e o. elim (cases_eq s (b / 256)) [
-      | inl z ↦ subst (λ (s : ℕ). Front S u s q) (sym z) (subst (λ (q : ℕ). Front S u (b / 256) q)
-          (pool_same p q (owner u (b / 256)) onto.own_same (subst (λ (x : ℕ). owner u x ≡ Some q) z o)) here_front)
+      | inl z ↦ rw (z, ← pool_same p q (owner u (b / 256)) onto.own_same (rw (← z) o)) here_front
       | inr n ↦ other_front s q e n (inv.fill.fronts s q e (sym (onto.own_other s n) ∙ o))
     ];
     aims = λ q h. elim (cases_eq q p) [
-      | inr n ↦ (let x = onto.aims q n in subst (λ (y : ℕ). owner0 S (y / 256) ≡ None) (sym x) (inv.fill.aims q (rw (← x) h)))
-      | inl e ↦ (let y : target u q ≡ b + size0 S a = ap (target u) e ∙ onto.aim in
+      | inr n ↦ (let x = onto.aims q n in rw x (inv.fill.aims q (rw (← x) h)))
+      | inl e ↦ (let y : target u q ≡ b + size0 S a = rw e onto.aim in
           let h' : 1 ≤ (b + size0 S a) % 256 = rw (← y) h in
           let g : (b + size0 S a) / 256 ≡ b / 256 = omega arith in
-          subst (λ (v : ℕ). owner0 S (v / 256) ≡ None) (sym y) (subst (λ (v : ℕ). owner0 S v ≡ None) (sym g) fresh))
+          rw (y, g) fresh)
     ];
-    empty = λ s e. inv.fill.empty s (sym (onto.own_other s (λ z. pool_not_free p (owner u (b / 256)) onto.own_same (subst (λ (x : ℕ). owner u x ≡ None) z e))) ∙ e);
+    empty = λ s e. inv.fill.empty s (sym (onto.own_other s (λ z. cc)) ∙ e);
     low = onto.own_other 0 (λ z. omega (arith, pl.low)) ∙ inv.fill.low;
     plain = λ s q e o. elim (cases_eq s (b / 256)) [
-      | inl z ↦ subst (λ (x : ℕ). leafy S x ≡ false) (pool_same p q (owner u (b / 256)) onto.own_same (subst (λ (x : ℕ). owner u x ≡ Some q) z o)) bare
+      | inl z ↦ rw (← pool_same p q (owner u (b / 256)) onto.own_same (rw (← z) o)) bare
       | inr n ↦ inv.fill.plain s q e (sym (onto.own_other s n) ∙ o)
     ];
     pools = λ s q o. elim (cases_eq s (b / 256)) [
       | inl z ↦ (
-        subst (λ (x : ℕ). x < 8) (pool_same p q (owner u (b / 256)) onto.own_same (subst (λ (x : ℕ). owner u x ≡ Some q) z o)) pin,
+        rw (← pool_same p q (owner u (b / 256)) onto.own_same (rw (← z) o)) pin,
         omega (arith, cp.long, pl.inside),
       )
       | inr n ↦ (let r = inv.fill.pools s q (sym (onto.own_other s n) ∙ o) in (r.0, omega (arith, cp.long, r.1)))

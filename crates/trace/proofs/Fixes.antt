@@ -1,7 +1,7 @@
 -- Fix keeps the invariant, and settles what it is given.
-use Rattle.std.proofs.Common.{◌≡◌, ℕ, ◌+◌, ◌-◌, ◌*◌, ◌/◌, ◌%◌, ◌<◌, ◌≤◌, min, Bool, true, false, cond, not, ◌&&◌, ◌||◌, eqb, ltb, leb, ◌≢◌, List, length, get_or, set, Some, None, Option, sym, refl, ap, ◌∙◌, subst, inl, inr, le_trans, arith, length-set, eqb-true}
-use borrow.Author.Tests.{both_ways}
-use Rattle.std.proofs.lemmas.Bool.{cases_Bool, cond-true, cond-false, lt-ltb, le-ltb, le-leb, leb-true, and_from}
+use Rattle.std.proofs.Common.{◌≡◌, ℕ, ◌+◌, ◌-◌, ◌*◌, ◌/◌, ◌%◌, ◌<◌, ◌≤◌, min, true, false, ltb, leb, ◌≢◌, List, length, get_or, set, Some, None, Option, sym, refl, ap, ◌∙◌, inl, inr, le_trans, arith, length-set}
+use Rattle.std.proofs.lemmas.Bool.{cases_Bool, lt-ltb, le-ltb, le-leb, leb-true, and_from}
+use Rattle.std.proofs.lemmas.Bool.Decides.{nat_tests}
 use Rattle.std.proofs.lemmas.List.{get_or-set_same, get_or-set_other}
 use Rattle.format.specs.declared.things.Head.{Head}
 use Rattle.format.specs.declared.things.Head.TheVariants.{Object}
@@ -11,22 +11,22 @@ use Rattle.format.specs.Meaning.{shape, padding}
 use Rattle.format.specs.Laws.{Lawful}
 use Rattle.format.proofs.Memory.{readings}
 use Rattle.arena.specs.Boards.{bit, with_bit, reach}
-use Rattle.arena.specs.Segments.{Owner, lowest_free}
+use Rattle.arena.specs.Segments.{lowest_free}
 use Rattle.arena.proofs.BoardLaws.{laws_of}
 use Rattle.trace.specs.declared.state.Class.{Class}
 use Rattle.trace.specs.declared.state.Class.TheVariants.{Amc, Ams, Lo}
 use Rattle.trace.specs.declared.state.Trace.{Trace}
 use Rattle.trace.specs.declared.deciding.Fate.{Fate}
-use Rattle.trace.specs.declared.deciding.Fate.TheVariants.{Stay, Copy, Fresh}
-use Rattle.trace.specs.Traces.{limit_of, head_at, class_of, condemns, rest, by_free, by_room, by_class, by_owner, by_head, sought, taken_words, copied_words, copied_state, taken_state, Heap, heap, acted, answered, fate_of, fixed, fix_answer}
+use Rattle.trace.specs.declared.deciding.Fate.TheVariants.{Copy, Fresh}
+use Rattle.trace.specs.Traces.{limit_of, head_at, class_of, rest, by_free, by_room, by_class, by_owner, sought, taken_words, copied_words, copied_state, taken_state, Heap, heap, acted, answered, fate_of, fixed, fix_answer}
 use Rattle.trace.specs.Collections.{is_amc, is_lo, moves}
-use Rattle.trace.proofs.Cells.{Apart, slots_of, owner, target, marked, stays, rd, owner0, leafy, Start, Std, thing0, size0, layout0, slots0, Obj, Fits, AllFit, Moved, Cell, same, copy, Names, null, names, stay, move, Settled, empty, settled, Body, Held, here, away, still, Null, Room, ahead, Owned, Inv, Grows, Keeps, Sound}
-use Rattle.trace.proofs.Facts.{object_not_padding, real_padding, stays_by_zone, stays_by_mark, leaves, stays_zero, board_keeps, board_set, body_map, grows_refl, grows_trans, final_grows, final_cell, cell_real, body_size, owned_on}
+use Rattle.trace.proofs.Cells.{Apart, slots_of, owner, target, stays, rd, owner0, leafy, Start, Std, size0, layout0, slots0, Obj, Fits, AllFit, Moved, Cell, same, copy, Names, null, names, stay, move, Settled, empty, settled, Body, Held, here, away, still, Null, Room, ahead, Owned, Inv, Grows, Keeps, Sound}
+use Rattle.trace.proofs.Facts.{real_padding, stays_by_zone, stays_by_mark, leaves, stays_zero, board_keeps, board_set, body_map, grows_refl, grows_trans, final_grows, final_cell, cell_real, body_size, owned_on}
 use Rattle.trace.proofs.Marking.{rebound, mark_ok, mark_grows}
 use Rattle.trace.proofs.Copying.{Copying, apart_all, copy_ok, copy_grows, copy_keeps}
 use Rattle.trace.proofs.Putting.{put_words, Pads, seg_apart, word_apart, cell_used, reframe, reframe_grows}
 use Rattle.trace.proofs.Effects.{Padded, pad_effect, copying}
-use Rattle.trace.proofs.Spots.{pool_not_free, pool_same, lowest_is_free, Spot, onward, opening, Onto, Placed, placed, owner_onto, ready_onto, room_onto}
+use Rattle.trace.proofs.Spots.{pool_not_free, lowest_is_free, Spot, onward, opening, Onto, Placed, placed, owner_onto, ready_onto, room_onto}
 use Rattle.trace.proofs.Filling.{fresh, filled}
 use Rattle.trace.proofs.Busy.{pot, mark_falls, copy_falls, reframe_falls}
 use Rattle.trace.proofs.Looking.{seen_forwarded, seen_object}
@@ -42,17 +42,7 @@ pub record Fixed (S : Start) (Todo : ℕ → Type 0) (t : Heap) (r q : ℕ) (u :
 
 -- what stays is not sought
 sought_no : (S : Start) (t : Heap) (a : ℕ) → stays S t a ≡ true → sought S.plan (length t.words) t.marks a ≡ false
-sought_no S t a h =
-    go (eqb a 0) (ltb a 256 || ltb 65535 a) (ltb (length t.words) (limit_of a)) (condemns S.plan a) (marked t a)
-    (λ e. (let z : a ≡ 0 = eqb-true a 0 e in ap (λ (x : Bool). x || ltb 65535 a) (lt-ltb a 256 (omega arith)))) h
-  where
-    go : (z x y c k : Bool) → (z ≡ true → x ≡ true) → (z || (not c || k)) ≡ true → cond x false (cond y false (cond c (not k) false)) ≡ false
-    go z true y c k f h = refl
-    go z false true c k f h = refl
-    go z false false false k f h = refl
-    go z false false true true f h = refl
-    go true false false true false f h = absurd (both_ways false refl (f refl))
-    go false false false true false f h = absurd (both_ways false refl h)
+sought_no S t a h = grind (arith, nat_tests)
 
 module _ (S : Start) (ok : Sound S) (t : Heap) (long : length t.words ≡ length S.space.words) (few : length t.words ≤ 65536) where
   -- an object that does not stay is sought
@@ -152,11 +142,8 @@ module _ (S : Start) (ok : Sound S) (laws : Lawful S.meaning) (Todo : ℕ → Ty
       cp : Copying S t.words (copy_words_to b) a b (size0 S a)
       cp =
           let top : b ≤ S.meaning.greatest_address = omega (arith, high, ok.some a sa, inv.long, ok.top) in
-          let f = copying S laws t.words a (layout0 S a) (slots_of (rd S t.words a)) body.shape b pl.low top in
-          let g : (n : ℕ) → n ≡ size0 S a → (b + n ≤ length t.words → Apart a n b n → Copying S t.words (copied_words S.meaning t.words a n b) a b n)
-          → Copying S t.words (copy_words_to b) a b (size0 S a)
-          = λ n e k. subst (λ (n : ℕ). b + n ≤ length t.words → Apart a n b n → Copying S t.words (copied_words S.meaning t.words a n b) a b n) e k high apart_new in
-          g (S.meaning.size (shape (layout0 S a) (length (slots_of (rd S t.words a))))) size_now f
+          let f = rw size_now at (copying S laws t.words a (layout0 S a) (slots_of (rd S t.words a)) body.shape b pl.low top) in
+          f high apart_new
 
       keep : (s : ℕ) → owner t s ≢ None → owner u s ≡ owner t s
       keep = owner_onto S t inv.ready p b spot (size0 S a) (ok.some a sa) fit u cp.long onto
@@ -166,9 +153,9 @@ module _ (S : Start) (ok : Sound S) (laws : Lawful S.meaning) (Todo : ℕ → Ty
 
       blank' : (w : ℕ) → owner u (w / 256) ≡ None → get_or (copy_words_to b) w 0 ≡ 0
       blank' w e =
-          let n : w / 256 ≢ b / 256 = λ z. pool_not_free p (owner u (b / 256)) onto.own_same (subst (λ (x : ℕ). owner u x ≡ None) z e) in
+          let n : w / 256 ≢ b / 256 = λ z. (cc) in
           let f : owner t (w / 256) ≡ None = sym (onto.own_other (w / 256) n) ∙ e in
-          cp.words w (word_apart w a (size0 S a) (λ z. cell_used S ok Todo t inv a a sa (same refl) (subst (λ (x : ℕ). owner t x ≡ None) z f)) (ok.seg a sa))
+          cp.words w (word_apart w a (size0 S a) (λ z. cell_used S ok Todo t inv a a sa (same refl) (rw (← z) f)) (ok.seg a sa))
           (word_apart w b (size0 S a) n fit) ∙ inv.blank w f
 
       fix_copy : Fixed S Todo t a b u
@@ -211,15 +198,15 @@ module _ (S : Start) (ok : Sound S) (laws : Lawful S.meaning) (Todo : ℕ → Ty
         let o = (inv.ready.owned p h).0 in
         seg_apart f (s * 256 + 256 - f) at (rest at)
         (λ z. (let x : at / 256 ≡ s = omega arith in
-        let pq : p ≡ q = pool_same p q (owner t s) (subst (λ (x : ℕ). owner t x ≡ Some p) x o) ow in
-        shut (subst (λ (x : ℕ). 1 ≤ target t x % 256) pq h) (subst (λ (x : ℕ). target t x / 256 ≡ s) pq x)))
+        let pq : p ≡ q = (cc) in
+        shut (rw (← pq) h) (rw (← pq) x)))
         (omega arith) (omega arith)))
 
     pad_blank : (w : ℕ) → owner t (w / 256) ≡ None → get_or rest_padded.words w 0 ≡ 0
     pad_blank w e =
         effect.words w (λ k. (let h : 1 ≤ at % 256 = omega arith in
         let o = (inv.ready.owned p h).0 in
-        word_apart w at (rest at) (λ z. pool_not_free p (owner t (at / 256)) o (subst (λ (x : ℕ). owner t x ≡ None) z e)) (omega arith)))
+        word_apart w at (rest at) (λ z. cc) (omega arith)))
         ∙ inv.blank w e
 
     pub pad_inv : Inv S Todo rest_padded
@@ -260,7 +247,7 @@ module _ (S : Start) (ok : Sound S) (laws : Lawful S.meaning) (Todo : ℕ → Ty
     small =
         let e = body.shape in
         let r = readings S.meaning laws in
-        subst (λ (n : ℕ). n ≤ 128) (size_now t inv a oa gone body) (r.sizes (shape (layout0 S a) (length (slots_of (rd S t.words a)))) (r.admits t.words a (layout0 S a) (slots_of (rd S t.words a)) e).0).3
+        rw (← size_now t inv a oa gone body) (r.sizes (shape (layout0 S a) (length (slots_of (rd S t.words a)))) (r.admits t.words a (layout0 S a) (slots_of (rd S t.words a)) e).0).3
 
     -- a copy at the target
     fix_onward : (p : ℕ) → p < 8 → leafy S p ≡ false → Own p → size0 S a ≤ rest (target t p) → FixedBy (Copy p (size0 S a) (target t p))
@@ -289,11 +276,11 @@ module _ (S : Start) (ok : Sound S) (laws : Lawful S.meaning) (Todo : ℕ → Ty
         fixed_after t v a (s * 256) (acted S.meaning t a (Fresh p (size0 S a) s)) (pad_grows t inv p) (pad_keeps t inv p) (pad_falls t inv p)
         (fix_copy v i a oa gone
         (body_map S t.words v.words (pad_grows t inv p).moves a (rd S t.words a) (rd S v.words a) (pad_frame t inv p a a sb (same refl)) body)
-        p (s * 256) c own (opening (omega arith) (omega (arith, f.0)) (omega (arith, f.2, (effect t inv p).long)) (subst (λ (x : ℕ). owner t x ≡ None) (sym k) f.3)) (omega (arith, small)) pin
+        p (s * 256) c own (opening (omega arith) (omega (arith, f.0)) (omega (arith, f.2, (effect t inv p).long)) (rw k f.3)) (omega (arith, small)) pin
         (λ h n. pad_closes t inv p h)
         st
         (record {
-          own_same = subst (λ (x : ℕ). get_or (set t.state.segments.owners s (Some p)) x None ≡ Some p) (sym k) (get_or-set_same t.state.segments.owners s (Some p) None (omega (arith, inv.ready.owners, f.1)));
+          own_same = rw k (get_or-set_same t.state.segments.owners s (Some p) None (omega (arith, inv.ready.owners, f.1)));
           own_other = λ q ne. get_or-set_other t.state.segments.owners s q (Some p) None (λ z. ne (z ∙ sym k));
           aim = get_or-set_same (set t.state.targets p (s * 256)) p (s * 256 + size0 S a) 0 (omega (arith, inv.ready.targets, length-set t.state.targets p (s * 256)));
           aims = λ q ne. get_or-set_other (set t.state.targets p (s * 256)) p q (s * 256 + size0 S a) 0 ne ∙ get_or-set_other t.state.targets p q (s * 256) 0 ne;
@@ -311,11 +298,8 @@ module _ (S : Start) (ok : Sound S) (laws : Lawful S.meaning) (Todo : ℕ → Ty
       | inl e ↦ (let l = leb-true (size0 S a) (rest (target t p)) e in
           let o = ok.some a sb in
           let k = inv.ready.owned p (omega arith) in
-          subst FixedBy (sym (cond-true (leb (size0 S a) (rest (target t p)) && leb (target t p + size0 S a) (min (length t.words) 65536)) _ _
-          (rw (e, le-leb (target t p + size0 S a) (min (length t.words) 65536) (omega (arith, k.1, inv.ready.few))) refl)))
-          (fix_onward p pin c own l))
-      | inr e ↦ subst FixedBy (sym (cond-false (leb (size0 S a) (rest (target t p)) && leb (target t p + size0 S a) (min (length t.words) 65536)) _ _ (rw e refl)))
-          (fix_free p pin c own (lowest_free t.state.segments (length t.words)) refl)
+          rw (e, le-leb (target t p + size0 S a) (min (length t.words) 65536) (omega (arith, k.1, inv.ready.few))) (fix_onward p pin c own l))
+      | inr e ↦ rw e (fix_free p pin c own (lowest_free t.state.segments (length t.words)) refl)
     ]
 
     fix_class : (p : ℕ) → p < 8 → owner0 S (a / 256) ≡ Some p → (leafy S p ≡ true → AllFit Null (slots0 S a) (slots0 S a)) → (x : Class) → class_of S.plan p ≡ x → FixedBy (by_class t.state (length t.words) p (size0 S a) x)
@@ -327,8 +311,7 @@ module _ (S : Start) (ok : Sound S) (laws : Lawful S.meaning) (Todo : ℕ → Ty
     fix_owner =
         let o = inv.owned a sb in
         let pin = (inv.fill.pools (a / 256) o.pool o.is).0 in
-        subst (λ (x : Owner). FixedBy (by_owner S.plan t.state (length t.words) (size0 S a) x)) (sym o.is)
-        (subst FixedBy (sym (cond-true (ltb o.pool 8) _ Stay (lt-ltb o.pool 8 pin))) (fix_class o.pool pin o.was o.leaf (class_of S.plan o.pool) refl))
+        rw (o.is, lt-ltb o.pool 8 pin) (fix_class o.pool pin o.was o.leaf (class_of S.plan o.pool) refl)
 
     abbrev found : Head
     found = Object (shape (layout0 S a) (length (slots_of (rd S t.words a))))
@@ -337,23 +320,17 @@ module _ (S : Start) (ok : Sound S) (laws : Lawful S.meaning) (Todo : ℕ → Ty
     head_now = seen_object S.meaning laws t.words a (layout0 S a) (slots_of (rd S t.words a)) body.shape (limit_of a) (omega (arith, size_now t inv a oa gone body, ok.seg a sb))
 
     pub fix_unmoved : FixedBy (fate_of S.meaning S.plan t a)
-    fix_unmoved =
-        subst FixedBy (sym (cond-true (sought S.plan (length t.words) t.marks a) _ Stay (sought_yes S ok t inv.long inv.ready.few a sb gone)))
-        (subst (λ (h : Head). FixedBy (by_head S.meaning S.plan t.state (length t.words) a h)) (sym head_now)
-        (subst (λ (n : ℕ). FixedBy (by_owner S.plan t.state (length t.words) n (owner t (a / 256)))) (sym (size_now t inv a oa gone body)) fix_owner))
+    fix_unmoved = rw (sought_yes S ok t inv.long inv.ready.few a sb gone, head_now, size_now t inv a oa gone body) fix_owner
 
   -- what stays
   fix_stays : (t : Heap) → Inv S Todo t → (r v : ℕ) → stays S t v ≡ true → Settled S t r v → Fixed S Todo t r (fix_answer S.meaning S.plan t v) (fixed S.meaning S.plan t v)
   fix_stays t inv r v h s =
-      subst (λ (f : Fate). Fixed S Todo t r (answered v f) (acted S.meaning t v f)) (sym (cond-false (sought S.plan (length t.words) t.marks v) _ Stay (sought_no S t v h)))
-      (unchanged t inv r v s)
+      rw (sought_no S t v h) (unchanged t inv r v s)
 
   -- what has gone
   fix_gone : (t : Heap) → Inv S Todo t → (r b : ℕ) → Obj S r → stays S t r ≡ false → Moved S t.words r b → Fixed S Todo t r (fix_answer S.meaning S.plan t r) (fixed S.meaning S.plan t r)
   fix_gone t inv r b s h g =
-      subst (λ (f : Fate). Fixed S Todo t r (answered r f) (acted S.meaning t r f))
-      (sym (cond-true (sought S.plan (length t.words) t.marks r) _ Stay (sought_yes S ok t inv.long inv.ready.few r s.0 h)
-      ∙ ap (by_head S.meaning S.plan t.state (length t.words) r) (seen_forwarded S.meaning laws t.words r (limit_of r) (size0 S r) (omega (arith, ok.seg r s.0)) b g)))
+      rw (sought_yes S ok t inv.long inv.ready.few r s.0 h, seen_forwarded S.meaning laws t.words r (limit_of r) (size0 S r) (omega (arith, ok.seg r s.0)) b g)
       (unchanged t inv r b (settled s (move g)))
 
   fix_same : (t : Heap) → Inv S Todo t → (r : ℕ) → Obj S r → Fixed S Todo t r (fix_answer S.meaning S.plan t r) (fixed S.meaning S.plan t r)
@@ -364,11 +341,11 @@ module _ (S : Start) (ok : Sound S) (laws : Lawful S.meaning) (Todo : ℕ → Ty
     where
       go : stays S t r ≡ false → Held S t.words r → Fixed S Todo t r (fix_answer S.meaning S.plan t r) (fixed S.meaning S.plan t r)
       go h (here b) = fix_unmoved t inv r s h b
-      go h (still w f) = absurd (object_not_padding (thing0 S r) (layout0 S r) (size0 S r) (slots0 S r) s.1 w)
+      go h (still w f) = cc
       go h (away b g k) = fix_gone t inv r b s h g
 
   pub fix_ok : (t : Heap) → Inv S Todo t → (r v : ℕ) → Names S t.words r v → Fixed S Todo t r (fix_answer S.meaning S.plan t v) (fixed S.meaning S.plan t v)
   fix_ok t inv r v (null e f) = fix_stays t inv r v (stays_zero S t v f) (empty e f)
   fix_ok t inv r v (names s (same e)) =
-      subst (λ (x : ℕ). Fixed S Todo t r (fix_answer S.meaning S.plan t x) (fixed S.meaning S.plan t x)) (sym e) (fix_same t inv r s)
+      rw e (fix_same t inv r s)
   fix_ok t inv r v (names s (copy g)) = fix_stays t inv r v (stays_by_zone S t v (inv.copied r v s.0 g).safe) (settled s (move g))

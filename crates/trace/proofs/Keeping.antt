@@ -1,13 +1,12 @@
 -- A collection keeps a sound arena, and all that it does not let go.
-use Rattle.std.proofs.Common.{◌≡◌, ℕ, Bool, true, false, cond, not, ◌||◌, eqb, Some, None, Option, sym, refl, ap, ◌∙◌, subst, inl, inr, arith, ne_eqb}
+use Rattle.std.proofs.Common.{◌≡◌, ℕ, true, not, ◌||◌, eqb, Some, None, Option, refl, inl, inr, arith, ne_eqb}
 use borrow.Author.Tests.{both_ways}
-use Rattle.std.proofs.lemmas.Bool.{cases_Bool, cond-true, cond-false}
+use Rattle.std.proofs.lemmas.Bool.{cases_Bool, or_right}
 use Rattle.format.specs.declared.things.Slot.{Slot}
 use Rattle.format.specs.declared.things.Slot.TheVariants.{Reference, Number}
 use Rattle.trace.specs.Traces.{condemns, Heap}
-use Rattle.trace.specs.Keeping.{place_by, place, Follows, SlotFollows}
-use Rattle.trace.proofs.Cells.{marked, stays, Start, Std, thing0, size0, layout0, slots0, Obj, Fits, Moved, Final, stay, move, Settled, empty, settled, Held, here, away, still, Inv, Sound}
-use Rattle.trace.proofs.Facts.{object_not_padding}
+use Rattle.trace.specs.Keeping.{place, Follows, SlotFollows}
+use Rattle.trace.proofs.Cells.{marked, stays, Start, Std, Obj, Fits, Final, stay, move, Settled, empty, settled, Held, here, away, still, Inv, Sound}
 
 -- ---- fates
 
@@ -16,46 +15,30 @@ module _ (S : Start) (ok : Sound S) (Todo : ℕ → Type 0) (t : Heap) (inv : In
   placed_at a = place S.meaning S.plan t a
 
   left_by : (a : ℕ) → Std S a → stays S t a ≡ true → (not (condemns S.plan a) || marked t a) ≡ true
-  left_by a s h = go (eqb a 0) (not (condemns S.plan a) || marked t a) (ne_eqb a 0 (λ z. omega (arith, ok.low a s))) h
-    where
-      go : (x y : Bool) → x ≡ false → (x || y) ≡ true → y ≡ true
-      go true y e h = absurd (both_ways true e refl)
-      go false y e h = h
+  left_by a s h = rw (ne_eqb a 0 (λ z. omega (arith, ok.low a s))) at h
 
   stays_left : (a : ℕ) → (not (condemns S.plan a) || marked t a) ≡ true → stays S t a ≡ true
-  stays_left a h = go (eqb a 0) (not (condemns S.plan a) || marked t a) h
-    where
-      go : (x y : Bool) → y ≡ true → (x || y) ≡ true
-      go true y h = refl
-      go false y h = h
+  stays_left a h = or_right (eqb a 0) _ h
 
   pub fate_is : (a p : ℕ) → Obj S a → Final S t a p → placed_at a ≡ Some p
-  fate_is a p s (move g) = ap (place_by (not (condemns S.plan a) || marked t a) a) g
+  fate_is a p s (move g) = rw g refl
   fate_is a p s (stay e h) = go (inv.held a s.0)
     where
       go : Held S t.words a → placed_at a ≡ Some p
-      go (here b) = ap (place_by (not (condemns S.plan a) || marked t a) a) b.shape ∙ cond-true (not (condemns S.plan a) || marked t a) (Some a) None (left_by a s.0 h) ∙ ap Some (sym e)
+      go (here b) = rw (b.shape, left_by a s.0 h, e) refl
       go (away b g k) = absurd (both_ways (stays S t a) (inv.copied a b s.0 g).left h)
-      go (still w f) = absurd (object_not_padding (thing0 S a) (layout0 S a) (size0 S a) (slots0 S a) s.1 w)
+      go (still w f) = cc
 
   pub is_fate : (a p : ℕ) → Obj S a → placed_at a ≡ Some p → Final S t a p
   is_fate a p s e = go (inv.held a s.0)
     where
-      some_is : (q : ℕ) → Some q ≡ Some p → q ≡ p
-      some_is q e = cc
-
-      none_not : None ≡ Some p → ⊥
-      none_not e = let z : ◌≡◌ {A = ℕ} 0 1 = cc in omega arith
-
       go : Held S t.words a → Final S t a p
-      go (here b) =
-          let f : cond (not (condemns S.plan a) || marked t a) (Some a) None ≡ Some p = sym (ap (place_by (not (condemns S.plan a) || marked t a) a) b.shape) ∙ e in
-          elim (cases_Bool (not (condemns S.plan a) || marked t a)) [
-            | inl h ↦ stay (sym (some_is a (sym (cond-true (not (condemns S.plan a) || marked t a) (Some a) None h) ∙ f))) (stays_left a h)
-            | inr h ↦ absurd (none_not (sym (cond-false (not (condemns S.plan a) || marked t a) (Some a) None h) ∙ f))
-          ]
-      go (away b g k) = move (subst (Moved S t.words a) (some_is b (sym (ap (place_by (not (condemns S.plan a) || marked t a) a) g) ∙ e)) g)
-      go (still w f) = absurd (object_not_padding (thing0 S a) (layout0 S a) (size0 S a) (slots0 S a) s.1 w)
+      go (here b) = elim (cases_Bool (not (condemns S.plan a) || marked t a)) [
+        | inl h ↦ (let f : Some a ≡ Some p = rw (b.shape, h) at e in stay (cc) (stays_left a h))
+        | inr h ↦ (let f : None ≡ Some p = rw (b.shape, h) at e in absurd (cc))
+      ]
+      go (away b g k) = (let f : Some b ≡ Some p = rw g at e in let q : b ≡ p = cc in move (rw (← q) g))
+      go (still w f) = cc
 
   pub follows : (r q : ℕ) → Settled S t r q → Follows S.meaning S.plan t r q
   follows r q (empty e f) = inl (e, f)

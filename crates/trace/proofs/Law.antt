@@ -1,28 +1,24 @@
 -- What a collection keeps.
-use Rattle.std.proofs.Common.{◌≡◌, ℕ, ◌+◌, ◌*◌, ◌/◌, ◌%◌, ◌<◌, ◌≤◌, Bool, true, false, not, ◌&&◌, ltb, ◌⊎◌, List, length, get_or, replicate, Some, Result, sym, refl, ap, ◌∙◌, subst, inl, inr, arith, None}
+use Rattle.std.proofs.Common.{◌≡◌, ℕ, ◌+◌, ◌*◌, ◌/◌, ◌%◌, ◌<◌, ◌≤◌, true, false, ◌⊎◌, List, length, get_or, replicate, Some, sym, refl, ap, ◌∙◌, subst, inl, inr, arith, None}
 use native.Mathlib.Decide.{dec_lt}
 use borrow.Author.Tests.{both_ways}
 use Rattle.trace.proofs.Spots.{owner_cases}
-use Rattle.std.proofs.lemmas.Bool.{cases_Bool, cond-true, lt-ltb, and_from}
+use Rattle.std.proofs.lemmas.Bool.{cases_Bool, lt-ltb, and_from}
 use Rattle.std.proofs.lemmas.List.{length-replicate}
-use Rattle.format.specs.declared.things.Slot.{Slot}
 use Rattle.format.specs.declared.things.Slot.TheVariants.{Number}
 use Rattle.format.specs.Meaning.{Meaning, object}
 use Rattle.format.specs.Laws.{Lawful}
-use Rattle.arena.specs.Boards.{bit_of, bit}
-use Rattle.arena.specs.Segments.{Owner, owner_of, segments_in}
+use Rattle.arena.specs.Boards.{bit}
+use Rattle.arena.specs.Segments.{owner_of, segments_in}
 use Rattle.arena.proofs.Lowest.{zero_bit}
 use Rattle.trace.specs.declared.state.Plan.{Plan}
 use Rattle.trace.specs.Traces.{condemns, Heap, heap, rounded}
-use Rattle.trace.specs.Collections.{in_set, all_zones, refers, all_buffers_closed, all_nailed, Rooted, rooted, roots_fixed, segments_scanned, Ground, ground, segments_swept}
-use Rattle.format.specs.declared.refusals.Refusal.{Refusal}
-use Rattle.format.specs.declared.refusals.Refusal.TheVariants.{WrongLength, CollectionsSpent}
-use Rattle.location.specs.Locations.{zone_of, has_zone, can_age}
-use Rattle.trace.specs.Collect.{Held, fits, plan_of, untraced, begun, before_sweep, after_sweep, ended, performed, held_aged, answering, refused}
-use Rattle.trace.specs.Collect.{Outcome as OutcomeOf}
-use Rattle.trace.specs.Keeping.{Space, space, is_base, is_owned, Leads, place, Follows, SlotFollows, Keeps, closed_space, SoundArena, KeptBy, CollectionsKeep}
+use Rattle.trace.specs.Collections.{in_set, all_zones, all_buffers_closed, all_nailed, Rooted, rooted, roots_fixed, segments_scanned, Ground, ground, segments_swept}
+use Rattle.location.specs.Locations.{zone_of, has_zone}
+use Rattle.trace.specs.Collect.{Held, plan_of, untraced, begun, before_sweep, after_sweep, ended, performed, held_aged}
+use Rattle.trace.specs.Keeping.{Space, space, is_base, is_owned, Leads, place, Follows, Keeps, closed_space, SoundArena, KeptBy, CollectionsKeep}
 use Rattle.trace.specs.Keeping.{Sound as SoundSpace}
-use Rattle.trace.proofs.Cells.{slots_of, layout_of, owner, target, grey, rd, owner0, leafy, Start, Std, size0, layout0, slots0, Obj, Names, Final, stay, move, Settled, empty, settled, Inv, Grows, Sound}
+use Rattle.trace.proofs.Cells.{slots_of, layout_of, owner, target, grey, rd, owner0, Start, Std, size0, layout0, slots0, Obj, Final, stay, move, Settled, empty, settled, Inv, Grows, Sound}
 use Rattle.trace.proofs.Facts.{get_or_all, stays_by_mark, stays_by_zone, leaves, settled_grows, grows_trans}
 use Rattle.trace.proofs.Putting.{inv_todo, final_body}
 use Rattle.trace.proofs.Rounding.{Went, one_place, rounds_ok, rounds_end, Regs, regs_ok}
@@ -38,7 +34,7 @@ use Rattle.trace.proofs.Newness.{unclosed}
 use Rattle.trace.proofs.Whole.{swept_all, closed_up, traced_steps, condemned_at, condemned_past, aged_zone, closed_long}
 
 clear_bit_of : (n p : ℕ) → bit (replicate n 0) p ≡ false
-clear_bit_of n p = ap (λ w. bit_of w (p % 32)) (get_or_all n (p / 32) 0) ∙ zero_bit (p % 32)
+clear_bit_of n p = rw (get_or_all {A = ℕ} n (p / 32) 0) (zero_bit (p % 32))
 
 module _ (m : Meaning) (laws : Lawful m) (h : Held) (pools : ℕ) (sa : SoundArena m h) where
   abbrev y : Plan
@@ -112,7 +108,7 @@ module _ (m : Meaning) (laws : Lawful m) (h : Held) (pools : ℕ) (sa : SoundAre
 
   rooted_up : Regs S ok laws Out t1 h.arena.registers 16 x2
   rooted_up = regs_ok S ok laws Out t1 h.arena.registers nailed_up.inv 16
-      (λ i l. subst (λ (ws : List ℕ). Names S ws (get_or h.arena.registers i 0) (get_or h.arena.registers i 0)) (sym nailed_up.words) (leads_names S laws sa.space (get_or h.arena.registers i 0) (sa.registers i l)))
+      (λ i l. rw nailed_up.words (leads_names S laws sa.space (get_or h.arena.registers i 0) (sa.registers i l)))
 
   abbrev k3 : ℕ
   k3 = segments_in (length t2.words)
@@ -140,14 +136,8 @@ module _ (m : Meaning) (laws : Lawful m) (h : Held) (pools : ℕ) (sa : SoundAre
       let o = d.0 in
       let k = seat S laws sa.space q o.0.0 in
       let w = sa.space.owned (q / 256) k.pool k.owner in
-      let sc : to_scan S ok laws (q / 256) ≡ true = ready (get_or y.condemned (q / 256) false) (owner0 S (q / 256)) o.1 k.pool k.owner w.0 (o.2 k.pool k.owner) in
+      let sc : to_scan S ok laws (q / 256) ≡ true = rw (o.1, k.owner, lt-ltb k.pool 8 w.0, o.2 k.pool k.owner) refl in
       both_ways (is_base m ws0 (q / 256 * 256 + 256) 256 (q / 256 * 256) q) (d.1 (q / 256) (omega (arith, w.1, rooted_up.inv.long, sa.space.whole.1)) sc) k.base
-    where
-      ready : (c : Bool) (o : Owner) → c ≡ false → (p : ℕ) → o ≡ Some p → p < 8 → leafy S p ≡ false → (not c && refers y.classes o) ≡ true
-      ready c o e p f l n = subst (λ (z : Bool). (not z && refers y.classes o) ≡ true) (sym e) (subst (λ (z : Owner). refers y.classes z ≡ true) (sym f) (pair (ltb p 8) (leafy S p) (lt-ltb p 8 l) n))
-        where
-          pair : (x z : Bool) → x ≡ true → z ≡ false → (x && not z) ≡ true
-          pair x z e f = rw (e, f) refl
 
   abbrev Nil : ℕ → Type 0
   Nil q = ⊥
@@ -251,8 +241,7 @@ module _ (m : Meaning) (laws : Lawful m) (h : Held) (pools : ℕ) (sa : SoundAre
           (
             (s.std, s.reads ∙ b.shape ∙ ap (λ (z : ℕ). object z (slots_of (rd S u.words p))) el),
             b.many ∙ ap length es,
-            λ i. subst (λ (zs : List Slot). SlotFollows m y u (get_or zs i (Number 0)) (get_or (slots_of (rd S u.words p)) i (Number 0))) es
-                (slot_follows S ok Nil u inv_u (get_or (slots0 S a) i (Number 0)) (get_or (slots_of (rd S u.words p)) i (Number 0)) (c i)),
+            λ i. rw (← es) (slot_follows S ok Nil u inv_u (get_or (slots0 S a) i (Number 0)) (get_or (slots_of (rd S u.words p)) i (Number 0)) (c i)),
           ),
         );
     only = λ p o.
@@ -307,7 +296,7 @@ module _ (m : Meaning) (laws : Lawful m) (h : Held) (pools : ℕ) (sa : SoundAre
   sound_by_v =
       let e = unclosed m swept.words in
       record {
-        space = subst (λ (ws : List ℕ). SoundSpace m y.classes (space ws swept.segments)) (sym e) sound_after;
+        space = rw e sound_after;
         registers = λ i l. subst (λ (ws : List ℕ). Leads m (space ws swept.segments) (get_or x2.roots i 0)) (sym e) (leads_after (get_or h.arena.registers i 0) (get_or x2.roots i 0) (registered i l));
         marks = board_after h.marks sa.marks;
         greys = board_after h.greys sa.greys;
@@ -317,16 +306,10 @@ module _ (m : Meaning) (laws : Lawful m) (h : Held) (pools : ℕ) (sa : SoundAre
   Kept x g = SoundArena m (ended (held_aged h pools) x g) × Keeps m y (closed_space m h) x.heap (space g.words g.segments) h.arena.ambiguous h.arena.registers x.roots
 
   kept_before : Kept (before_sweep m y h) (after_sweep m y (before_sweep m y h))
-  kept_before =
-      subst (λ (x : Rooted). Kept x (after_sweep m y x)) (sym (traced_steps m y h.arena.ambiguous (begun m h)))
-      (subst (Kept (rooted x2.roots v)) (sym (swept_all m y v.marks (ground v.state.segments v.words))) (sound_by_v, kept_by_v))
+  kept_before = rw (traced_steps m y h.arena.ambiguous (begun m h), swept_all m y v.marks (ground v.state.segments v.words)) (sound_by_v, kept_by_v)
 
   pub performed_keeps : KeptBy m y h (performed m y (held_aged h pools)).after
   performed_keeps = kept_before
 
 pub collections_keep : CollectionsKeep
-collections_keep m laws h pools sa f c =
-    subst (λ (o : OutcomeOf (Result ℕ Refusal)). KeptBy m (plan_of h.arena pools) h o.after)
-    (sym (cond-true (fits m (length h.words) (length h.marks) (length h.greys)) _ (refused WrongLength h) f
-    ∙ cond-true (can_age h.arena.history) (answering (performed m (plan_of h.arena pools) (held_aged h pools))) (refused CollectionsSpent h) c))
-    (performed_keeps m laws h pools sa)
+collections_keep m laws h pools sa f c = rw (f, c) (performed_keeps m laws h pools sa)

@@ -1,5 +1,5 @@
 -- What a head says of a thing that stands.
-use Rattle.std.proofs.Common.{◌≡◌, ℕ, ◌+◌, ◌-◌, ◌<◌, ◌≤◌, ◌≢◌, List, length, get_or, take, drop, sym, refl, ◌∙◌, subst, arith}
+use Rattle.std.proofs.Common.{◌≡◌, ℕ, ◌+◌, ◌-◌, ◌<◌, ◌≤◌, ◌≢◌, List, length, get_or, drop, sym, refl, ◌∙◌, arith}
 use Rattle.std.proofs.lemmas.List.{take-take}
 use Rattle.format.specs.declared.things.Shape.{Shape}
 use Rattle.format.specs.declared.things.Head.{Head}
@@ -16,15 +16,15 @@ seen_thing m ws x =
     (seen_is m ws (m.head ws) r.head r.range r.fits, reads_is m ws (m.head ws) r)
 
 is_forwarded : (f : Shape → ℕ → Slot) (h : Head) (k to : ℕ) → thing f h ≡ forwarded k to → h ≡ Forwarded k to
-is_forwarded f Nothing k to e = absurd (let z : ◌≡◌ {A = ℕ} 0 1 = cc in omega arith)
-is_forwarded f (Object s) k to e = absurd (let z : ◌≡◌ {A = ℕ} 0 1 = cc in omega arith)
+is_forwarded f Nothing k to e = cc
+is_forwarded f (Object s) k to e = cc
 is_forwarded f (Forwarded j b) k to e = let p : j ≡ k = cc in let q : b ≡ to = cc in rw (p, q) refl
-is_forwarded f (Padding j) k to e = absurd (let z : ◌≡◌ {A = ℕ} 0 1 = cc in omega arith)
+is_forwarded f (Padding j) k to e = cc
 
 is_padding : (f : Shape → ℕ → Slot) (h : Head) (k : ℕ) → thing f h ≡ padding k → h ≡ Padding k
-is_padding f Nothing k e = absurd (let z : ◌≡◌ {A = ℕ} 0 1 = cc in omega arith)
-is_padding f (Object s) k e = absurd (let z : ◌≡◌ {A = ℕ} 0 1 = cc in omega arith)
-is_padding f (Forwarded j b) k e = absurd (let z : ◌≡◌ {A = ℕ} 0 1 = cc in omega arith)
+is_padding f Nothing k e = cc
+is_padding f (Object s) k e = cc
+is_padding f (Forwarded j b) k e = cc
 is_padding f (Padding j) k e = let p : j ≡ k = cc in rw p refl
 
 module _ (m : Meaning) (laws : Lawful m) (ws : List ℕ) (a : ℕ) where
@@ -32,7 +32,7 @@ module _ (m : Meaning) (laws : Lawful m) (ws : List ℕ) (a : ℕ) where
   pub part_reads : (k n : ℕ) → Real m (thing_at m ws a) n → n ≤ k → reads m (part a k ws) ≡ thing_at m ws a
   part_reads k n r l =
       laws.own (drop a ws) (part a k ws) r.real
-      (subst (λ (j : ℕ). take j (part a k ws) ≡ take j (drop a ws)) (sym r.span) (take-take n k (drop a ws) l))
+      (rw r.span (take-take n k (drop a ws) l))
 
   module _ (limit n : ℕ) (fits : a + n ≤ limit) where
     whole : Real m (thing_at m ws a) n → reads m (part a (limit - a) ws) ≡ thing_at m ws a
@@ -41,7 +41,7 @@ module _ (m : Meaning) (laws : Lawful m) (ws : List ℕ) (a : ℕ) where
     seen_here : (x : Thing) → thing_at m ws a ≡ x → Real m x n
         → (seen m (part a (limit - a) ws) ≡ m.head (part a (limit - a) ws)) × (thing (λ s. m.slot s (part a (limit - a) ws)) (m.head (part a (limit - a) ws)) ≡ x)
     seen_here x e r =
-        let r' : Real m (thing_at m ws a) n = subst (λ (y : Thing). Real m y n) (sym e) r in
+        let r' : Real m (thing_at m ws a) n = rw e r in
         let w : reads m (part a (limit - a) ws) ≡ x = whole r' ∙ e in
         let s = seen_thing m (part a (limit - a) ws) (λ z. r.real (sym w ∙ z)) in
         (s.0, sym s.1 ∙ w)

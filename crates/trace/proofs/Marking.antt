@@ -1,7 +1,6 @@
 -- A mark on an object that has not moved keeps the invariant.
 use Rattle.std.proofs.Common.{◌≡◌, ℕ, ◌<◌, ◌≤◌, true, ◌≢◌, ◌⊎◌, List, length, sym, refl, ◌∙◌, subst, inl, inr, arith, length-set}
 use Rattle.std.proofs.lemmas.Bool.{cases_eq}
-use Rattle.format.specs.Meaning.{forwarded}
 use Rattle.arena.specs.Boards.{bit, with_bit, reach}
 use Rattle.arena.proofs.BoardLaws.{laws_of}
 use Rattle.trace.specs.Traces.{with_low, Heap, heap}
@@ -10,7 +9,7 @@ use Rattle.trace.proofs.Facts.{object_not_forwarded, stays_by_mark, same_stays, 
 
 pub unmoved : (S : Start) (ws : List ℕ) (a c b : ℕ) → Body S ws a (rd S ws a) → Moved S ws c b → c ≢ a
 unmoved S ws a c b h g e =
-    object_not_forwarded (rd S ws a) (layout0 S a) (size0 S c) b (slots_of (rd S ws a)) h.shape (subst (λ (x : ℕ). rd S ws x ≡ forwarded (size0 S c) b) e g)
+    object_not_forwarded (rd S ws a) (layout0 S a) (size0 S c) b (slots_of (rd S ws a)) h.shape (rw (← e) g)
 
 -- the same owners and targets, with another bound
 module _ (S : Start) (t : Heap) (low : ℕ) (ms gs : List ℕ) where
@@ -59,8 +58,7 @@ module _ (S : Start) (Todo : ℕ → Type 0) (t : Heap) (inv : Inv S Todo t) (a 
       ]
 
       at : (q d : ℕ) → q ≡ a → d ≡ a → ((grey with_mark q ≡ true) ⊎ Todo q) ⊎ Clean S with_mark d (rd S t.words q)
-      at q d e g = subst (λ (q : ℕ). ((grey with_mark q ≡ true) ⊎ Todo q) ⊎ Clean S with_mark d (rd S t.words q)) (sym e)
-          (subst (λ (d : ℕ). ((grey with_mark a ≡ true) ⊎ Todo a) ⊎ Clean S with_mark d (rd S t.words a)) (sym g) now)
+      at q d e g = rw (e, g) now
 
       go : Final S with_mark c p → ((grey with_mark p ≡ true) ⊎ Todo p) ⊎ Clean S with_mark c (rd S t.words p)
       go (move e) = old (move e)

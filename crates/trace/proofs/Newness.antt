@@ -1,7 +1,7 @@
 -- A new arena is sound.
-use Rattle.std.proofs.Common.{◌≡◌, ℕ, zero, suc, ◌+◌, ◌*◌, ◌/◌, ◌%◌, true, ◌&&◌, eqb, leb, List, length, replicate, sym, refl, ap, ◌∙◌, subst, inl, inr, None}
+use Rattle.std.proofs.Common.{◌≡◌, ℕ, zero, suc, ◌+◌, ◌*◌, ◌/◌, ◌%◌, true, ◌&&◌, eqb, leb, List, length, replicate, sym, refl, ap, ◌∙◌, inl, inr, None}
 use borrow.Author.Tests.{both_ways}
-use Rattle.std.proofs.lemmas.Bool.{cases_Bool, cond-true, cond-false, eqb-true, leb-true, and_parts}
+use Rattle.std.proofs.lemmas.Bool.{cases_Bool, eqb-true, leb-true, and_parts}
 use Rattle.std.proofs.lemmas.List.{length-replicate}
 use Rattle.format.specs.Meaning.{Meaning}
 use Rattle.arena.specs.Segments.{Owner, all_free, owner_of}
@@ -14,14 +14,12 @@ use Rattle.trace.proofs.Facts.{get_or_all}
 use Rattle.trace.proofs.Spots.{pool_not_free}
 
 nowhere : (m : Meaning) (ws : List ℕ) → padded_part m 0 0 ws ≡ ws
-nowhere m ws = elim (cases_Bool (leb 0 0 && leb 0 (length ws))) [ inl e ↦ cond-true (leb 0 0 && leb 0 (length ws)) ws ws e | inr e ↦ cond-false (leb 0 0 && leb 0 (length ws)) ws ws e ]
+nowhere m ws = elim (cases_Bool (leb 0 0 && leb 0 (length ws))) [ inl e ↦ rw e refl | inr e ↦ rw e refl ]
 
 -- no buffer has words
 none_closed : (m : Meaning) (ws : List ℕ) (k : ℕ) → buffers_closed m (replicate 8 no_buffer) ws k ≡ ws
 none_closed m ws zero = refl
-none_closed m ws (suc k) =
-    ap (λ b. padded_part m b.init b.limit (buffers_closed m (replicate 8 no_buffer) ws k)) (get_or_all 8 k no_buffer)
-    ∙ nowhere m (buffers_closed m (replicate 8 no_buffer) ws k) ∙ none_closed m ws k
+none_closed m ws (suc k) = rw (get_or_all 8 k no_buffer) (nowhere m (buffers_closed m (replicate 8 no_buffer) ws k) ∙ none_closed m ws k)
 
 pub unclosed : (m : Meaning) (ws : List ℕ) → all_buffers_closed m (replicate 8 no_buffer) ws ≡ ws
 unfolding all_buffers_closed
@@ -63,7 +61,7 @@ new_arenas_sound m classes len f =
     let e = unclosed m (replicate len 0) in
     let n = ap (λ (k : ℕ). replicate {A = ℕ} (k / 32) 0) (sym (length-replicate {A = ℕ} len 0)) in
     record {
-      space = subst (λ (ws : List ℕ). Sound m classes (space ws all_free)) (sym e) (sound m classes len f);
+      space = rw e (sound m classes len f);
       registers = λ i l. inl (get_or_all 16 i 0);
       marks = n;
       greys = n;

@@ -18,7 +18,7 @@ module _ (m : Meaning) (ws ms : List ℕ) (limit w : ℕ) where
   enough : (k j at : ℕ) → limit - at ≤ k → limit - at ≤ j → pointed m ws ms limit w k at ≡ pointed m ws ms limit w j at
   enough zero zero at p q = refl
   enough zero (suc j) at p q = sym (cond-false _ _ _ (le-ltb at limit (omega arith)))
-  enough (suc k) zero at p q = cond-false _ _ _ (le-ltb at limit (omega arith))
+  enough (suc k) zero at p q = rw (le-ltb at limit (omega arith)) refl
   enough (suc k) (suc j) at p q =
       elim (cases_lt at limit) [
         | inl l ↦

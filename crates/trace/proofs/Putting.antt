@@ -1,17 +1,15 @@
 -- A slot written, words padded, an object ungreyed.
 use Rattle.std.proofs.Common.{◌≡◌, ℕ, ◌+◌, ◌-◌, ◌*◌, ◌/◌, ◌%◌, ◌<◌, ◌≤◌, true, ◌≢◌, ◌⊎◌, List, length, get_or, set, sym, refl, ap, ◌∙◌, subst, ap₂, inl, inr, arith, length-set, get_or-set_other, get_or-set_same, Some, None}
-use native.Mathlib.Decide.{dec_lt}
 use borrow.Author.Tests.{both_ways}
 use Rattle.std.proofs.lemmas.Bool.{cases_eq}
 use Rattle.format.specs.declared.things.Slot.{Slot}
 use Rattle.format.specs.declared.things.Slot.TheVariants.{Number}
-use Rattle.format.specs.Meaning.{object, forwarded, padding}
-use Rattle.arena.specs.Segments.{Owner}
+use Rattle.format.specs.Meaning.{object, padding}
 use Rattle.arena.specs.Boards.{without_bit}
 use Rattle.arena.proofs.BoardLaws.{laws_of}
 use Rattle.trace.specs.Traces.{Heap, heap, ungreyed}
-use Rattle.trace.proofs.Cells.{Apart, slots_of, layout_of, owner, target, grey, stays, rd, owner0, Start, Std, thing0, size0, layout0, slots0, Obj, Fits, fits_map, Moved, Cell, same, copy, Names, Final, stay, move, Body, Held, here, away, still, Clean, Room, unused, ahead, Ready, Copied, Fill, Owned, Inv, Grows, Sound}
-use Rattle.trace.proofs.Facts.{object_not_forwarded, object_not_padding, same_address, Real, real_padding, board_drop, cell_map, names_map, body_map, clean_grows, place_grows, final_cell, cell_real, copied_on, owned_on}
+use Rattle.trace.proofs.Cells.{Apart, slots_of, layout_of, owner, target, grey, stays, rd, owner0, Start, Std, size0, layout0, slots0, Obj, Fits, fits_map, Moved, Cell, same, copy, Names, Final, stay, move, Body, Held, here, away, still, Clean, Room, unused, ahead, Ready, Copied, Fill, Owned, Inv, Grows, Sound}
+use Rattle.trace.proofs.Facts.{object_not_forwarded, object_not_padding, same_address, Real, real_padding, board_drop, cell_map, names_map, body_map, clean_grows, place_grows, final_grows, final_cell, cell_real, one_cell, copied_on, owned_on}
 use Rattle.trace.proofs.Marking.{unmoved, ready_same, room_same, owned_same, fill_same}
 
 -- where an object will be, it stands
@@ -19,11 +17,11 @@ pub final_body : (S : Start) (Todo : ℕ → Type 0) (t : Heap) → Inv S Todo t
 final_body S Todo t inv a p s f = go (inv.held a s.0) f
   where
     go : Held S t.words a → Final S t a p → Body S t.words a (rd S t.words p)
-    go (here h) (stay e k) = subst (λ (q : ℕ). Body S t.words a (rd S t.words q)) (sym e) h
+    go (here h) (stay e k) = rw e h
     go (here h) (move g) = absurd (unmoved S t.words a a p h g refl)
     go (away b g h) (stay e k) = absurd (both_ways (stays S t a) (inv.copied a b s.0 g).left k)
-    go (still w e) f = absurd (object_not_padding (thing0 S a) (layout0 S a) (size0 S a) (slots0 S a) s.1 w)
-    go (away b g h) (move f) = subst (λ (q : ℕ). Body S t.words a (rd S t.words q)) (same_address (rd S t.words a) (size0 S a) (size0 S a) b p g f) h
+    go (still w e) f = cc
+    go (away b g h) (move f) = rw (← same_address (rd S t.words a) (size0 S a) (size0 S a) b p g f) h
 
 pub inv_todo : (S : Start) (Todo Next : ℕ → Type 0) (t : Heap) → Inv S Todo t
     → ((a p : ℕ) → Obj S a → Final S t a p → Todo p → Next p ⊎ Clean S t a (rd S t.words p)) → Inv S Next t
@@ -59,7 +57,7 @@ Pads S t k = (s p f : ℕ) → owner0 S s ≡ None → owner t s ≡ Some p → 
 module _ (S : Start) (t : Heap) (k : List ℕ) (long : length k ≡ length t.words) where
   pub ready_put : Ready S t → Ready S (put_words t k)
   ready_put r = record {
-    whole = ap (λ (n : ℕ). n % 256) long ∙ r.whole;
+    whole = rw long r.whole;
     few = omega (arith, long, r.few);
     owned = λ p h. let o = r.owned p h in (o.0, omega (arith, long, o.1), o.2, o.3);
     unused = r.unused;
@@ -99,10 +97,7 @@ module _ (S : Start) (t : Heap) (k : List ℕ) (long : length k ≡ length t.wor
           x.0,
           elim x.1 [
             | inl y ↦ inl y
-            | inr y ↦ elim (dec_lt f.front (s * 256 + 256)) [
-              | yes l ↦ inr (pads s p f.front e o x.0 f.below f.low l y ∙ y)
-              | no l ↦ inl (omega (arith, f.high))
-            ]
+            | inr y ↦ grind arith
           ],
         )
       ];
@@ -110,28 +105,23 @@ module _ (S : Start) (t : Heap) (k : List ℕ) (long : length k ≡ length t.wor
   }
 
 pub seg_apart : (x n y k : ℕ) → x / 256 ≢ y / 256 → x % 256 + n ≤ 256 → y % 256 + k ≤ 256 → Apart x n y k
-seg_apart x n y k ne h g = elim (dec_lt x y) [
-  | yes l ↦ inl (let z : x / 256 < y / 256 = omega arith in omega arith)
-  | no l ↦ inr (let z : y / 256 < x / 256 = omega arith in omega arith)
-]
+seg_apart x n y k ne h g = grind arith
 
 -- a word of another segment
 pub word_apart : (w p n : ℕ) → w / 256 ≢ p / 256 → p % 256 + n ≤ 256 → (w < p) ⊎ (p + n ≤ w)
-word_apart w p n ne h = elim (dec_lt w p) [ yes l ↦ inl l | no l ↦ inr (let z : p / 256 < w / 256 = omega arith in omega arith) ]
+word_apart w p n ne h = grind arith
 
 -- a cell's segment is in use
 pub cell_used : (S : Start) (ok : Sound S) (Todo : ℕ → Type 0) (t : Heap) → Inv S Todo t → (a p : ℕ) → Std S a → Cell S t.words a p → owner t (p / 256) ≢ None
 cell_used S ok Todo t inv a p s (same q) e =
     let o = inv.owned a s in
-    let f : owner t (a / 256) ≡ None = subst (λ (x : ℕ). owner t (x / 256) ≡ None) q e in
-    let z : ◌≡◌ {A = Owner} (Some o.pool) None = sym o.is ∙ f in
-    let y : ◌≡◌ {A = ℕ} 0 1 = cc in absurd (omega arith)
+    cc
 cell_used S ok Todo t inv a p s (copy g) e =
     let h = inv.copied a p s g in
-    elim (inv.room p a p (unused h.low (omega (arith, h.high, ok.some a s)) e) s (copy g)) [ inl x ↦ absurd (omega arith) | inr x ↦ absurd (omega (arith, ok.some a s)) ]
+    elim (inv.room p a p (unused h.low (omega (arith, h.high, ok.some a s)) e) s (copy g)) [ inl x ↦ omega arith | inr x ↦ absurd (omega (arith, ok.some a s)) ]
 
 pub cell_seg : (S : Start) (ok : Sound S) (Todo : ℕ → Type 0) (t : Heap) → Inv S Todo t → (a p : ℕ) → Std S a → Cell S t.words a p → p % 256 + size0 S a ≤ 256
-cell_seg S ok Todo t inv a p s (same q) = subst (λ (x : ℕ). x % 256 + size0 S a ≤ 256) (sym q) (ok.seg a s)
+cell_seg S ok Todo t inv a p s (same q) = rw q (ok.seg a s)
 cell_seg S ok Todo t inv a p s (copy g) = (inv.copied a p s g).seg
 
 -- words that are no cell's are written
@@ -168,8 +158,7 @@ module _ (S : Start) (Todo : ℕ → Type 0) (t : Heap) (inv : Inv S Todo t) (k 
   }
     where
       back : (a p : ℕ) → Std S a → Final S (put_words t k) a p → Final S t a p
-      back a p s (stay e h) = stay e h
-      back a p s (move g) = move (moves_back a p s g)
+      back a p s f = final_grows S (put_words t k) t (record { marks = λ c h. h; moves = moves_back }) a p s f
 
       go : (a : ℕ) → Std S a → Held S t.words a → Held S k a
       go a s (here h) = here (body_map S t.words k moves_on a (rd S t.words a) (rd S k a) (frame a a s (same refl)) h)
@@ -199,23 +188,17 @@ module _ (S : Start) (ok : Sound S) (Todo : ℕ → Type 0) (t : Heap) (inv : In
   ]
 
   whose : (c q : ℕ) → Std S c → Cell S t.words c q → q ≡ p → c ≡ a
-  whose c q s e h = elim (inv.apart c q a p s sa e (final_cell S t a p fin)) [
-    | inl y ↦ y.0
-    | inr y ↦ elim y [ inl z ↦ absurd (omega (arith, ok.some c s)) | inr z ↦ absurd (omega (arith, ok.some a sa)) ]
-  ]
+  whose c q s e h = one_cell S ok Todo t inv a c p q sa s (final_cell S t a p fin) e h
 
   not_p : (c d : ℕ) → Moved S t.words c d → c ≢ p
-  not_p c d g e =
-      object_not_forwarded (rd S t.words p) (layout0 S a) (size0 S c) d (slots_of (rd S t.words p)) body.shape
-      (subst (λ (y : ℕ). rd S t.words y ≡ forwarded (size0 S c) d) e g)
+  not_p c d g e = object_not_forwarded (rd S t.words p) (layout0 S a) (size0 S c) d (slots_of (rd S t.words p)) body.shape (rw (← e) g)
 
   put_moves : (c d : ℕ) → Std S c → Moved S t.words c d → Moved S k c d
   put_moves c d s g = frame c c s (same refl) (not_p c d g) ∙ g
 
   put_back : (c d : ℕ) → Std S c → Moved S k c d → Moved S t.words c d
   put_back c d s g = elim (cases_eq c p) [
-    | inl e ↦ absurd (object_not_forwarded (rd S k p) (layout_of (rd S t.words p)) (size0 S c) d (set (slots_of (rd S t.words p)) i x) pt.there
-        (subst (λ (y : ℕ). rd S k y ≡ forwarded (size0 S c) d) e g))
+    | inl e ↦ (cc)
     | inr n ↦ sym (frame c c s (same refl) n) ∙ g
   ]
 
@@ -232,17 +215,17 @@ module _ (S : Start) (ok : Sound S) (Todo : ℕ → Type 0) (t : Heap) (inv : In
   put_pads s o f e ow shut below bot hi pd = pt.others f (s * 256 + 256 - f) (real_padding S.meaning (rd S t.words f) (s * 256 + 256 - f) pd) (go (final_cell S t a p fin))
     where
       go : Cell S t.words a p → Apart f (s * 256 + 256 - f) p (size0 S a)
-      go (same q) = seg_apart f (s * 256 + 256 - f) p (size0 S a) (λ z. ok.used a sa (subst (λ (y : ℕ). owner0 S y ≡ None) (from z) e)) (omega arith) (subst (λ (y : ℕ). y % 256 + size0 S a ≤ 256) (sym q) (ok.seg a sa))
+      go (same q) = seg_apart f (s * 256 + 256 - f) p (size0 S a) (λ z. ok.used a sa (rw (← from z) e)) (omega arith) (rw q (ok.seg a sa))
         where
           from : f / 256 ≡ p / 256 → s ≡ a / 256
-          from z = let y : p / 256 ≡ a / 256 = ap (λ (v : ℕ). v / 256) q in omega arith
+          from z = let y : p / 256 ≡ a / 256 = rw q refl in omega arith
       go (copy g) = elim (cases_eq (p / 256) s) [
         | inl z ↦ inr (below a p sa g z)
         | inr n ↦ seg_apart f (s * 256 + 256 - f) p (size0 S a) (λ z. n (omega arith)) (omega arith) (inv.copied a p sa g).seg
       ]
 
   put_blank : (w : ℕ) → owner t (w / 256) ≡ None → get_or k w 0 ≡ 0
-  put_blank w e = pt.words w (word_apart w p (size0 S a) (λ z. cell_used S ok Todo t inv a p sa (final_cell S t a p fin) (subst (λ (x : ℕ). owner t x ≡ None) z e)) (cell_seg S ok Todo t inv a p sa (final_cell S t a p fin))) ∙ inv.blank w e
+  put_blank w e = pt.words w (word_apart w p (size0 S a) (λ z. cell_used S ok Todo t inv a p sa (final_cell S t a p fin) (rw (← z) e)) (cell_seg S ok Todo t inv a p sa (final_cell S t a p fin))) ∙ inv.blank w e
 
   put_body : Body S k a (rd S k p)
   put_body = record {
@@ -254,8 +237,7 @@ module _ (S : Start) (ok : Sound S) (Todo : ℕ → Type 0) (t : Heap) (inv : In
     where
       at : (j : ℕ) → Fits (Names S t.words) (get_or (slots0 S a) j (Number 0)) (get_or (slots_of (rd S k p)) j (Number 0))
       at j = elim (cases_eq j i) [
-        | inl e ↦ subst (λ (j : ℕ). Fits (Names S t.words) (get_or (slots0 S a) j (Number 0)) (get_or (slots_of (rd S k p)) j (Number 0))) (sym e)
-            (rw (put_slots, get_or-set_same (slots_of (rd S t.words p)) i x (Number 0) inside) fits)
+        | inl e ↦ rw (e, put_slots, get_or-set_same (slots_of (rd S t.words p)) i x (Number 0) inside) fits
         | inr n ↦ rw (put_slots, get_or-set_other (slots_of (rd S t.words p)) i j x (Number 0) n) (body.names j)
       ]
 
@@ -265,11 +247,11 @@ module _ (S : Start) (ok : Sound S) (Todo : ℕ → Type 0) (t : Heap) (inv : In
     | inr n ↦ here (body_map S t.words k put_moves c (rd S t.words c) (rd S k c) (frame c c s (same refl) n) h)
   ]
   put_held c s (still w e) = elim (cases_eq c p) [
-    | inl f ↦ absurd (object_not_padding (rd S t.words p) (layout0 S a) (size0 S c) (slots_of (rd S t.words p)) body.shape (subst (λ (y : ℕ). rd S t.words y ≡ padding (size0 S c)) f e))
+    | inl f ↦ absurd (object_not_padding (rd S t.words p) (layout0 S a) (size0 S c) (slots_of (rd S t.words p)) body.shape (rw (← f) e))
     | inr n ↦ still w (frame c c s (same refl) n ∙ e)
   ]
   put_held c s (away d g h) = elim (cases_eq d p) [
-    | inl e ↦ away d (put_moves c d s g) (subst (λ (y : ℕ). Body S k c (rd S k y)) (sym e) (subst (λ (y : ℕ). Body S k y (rd S k p)) (sym (whose c d s (copy g) e)) put_body))
+    | inl e ↦ away d (put_moves c d s g) (rw (e, whose c d s (copy g) e) put_body)
     | inr n ↦ away d (put_moves c d s g) (body_map S t.words k put_moves c (rd S t.words d) (rd S k d) (frame c d s (copy g) n) h)
   ]
 
@@ -288,7 +270,7 @@ module _ (S : Start) (ok : Sound S) (Todo : ℕ → Type 0) (t : Heap) (inv : In
     marked = inv.marked;
     blank = put_blank;
     clean = λ c q s f. let g = back c q s.0 f in elim (cases_eq q p) [
-      | inl e ↦ inl (inr (subst Todo (sym e) todo))
+      | inl e ↦ inl (inr (rw e todo))
       | inr n ↦ elim (inv.clean c q s g) [
         | inl y ↦ inl y
         | inr h ↦ inr (clean_grows S t (put_words t k) put_grows c (rd S t.words q) (rd S k q) (frame c q s.0 (final_cell S t c q g) n) h)
@@ -297,8 +279,7 @@ module _ (S : Start) (ok : Sound S) (Todo : ℕ → Type 0) (t : Heap) (inv : In
   }
     where
       back : (c q : ℕ) → Std S c → Final S (put_words t k) c q → Final S t c q
-      back c q s (stay e h) = stay e h
-      back c q s (move g) = move (put_back c q s g)
+      back c q s f = final_grows S (put_words t k) t (record { marks = λ d h. h; moves = put_back }) c q s f
 
 -- the lowest grey object is no more grey, but to be scanned
 module _ (S : Start) (Todo : ℕ → Type 0) (t : Heap) (inv : Inv S Todo t) (p : ℕ) (lowest : (c : ℕ) → grey t c ≡ true → p ≤ c) where
@@ -319,7 +300,7 @@ module _ (S : Start) (Todo : ℕ → Type 0) (t : Heap) (inv : Inv S Todo t) (p 
     marked = inv.marked;
     blank = inv.blank;
     greys = λ q h. place_grows S t (ungreyed t p) ungrey_grows q (inv.greys q (board_drop t.greys p q h));
-    clean = λ a q s f. elim (inv.clean a q s (back a q f)) [
+    clean = λ a q s f. elim (inv.clean a q s (final_grows S (ungreyed t p) t (record { marks = λ c h. h; moves = λ c d r h. h }) a q s.0 f)) [
       | inl x ↦ elim x [
         | inl g ↦ elim (cases_eq q p) [ inl e ↦ inl (inr (inr e)) | inr n ↦ inl (inl ((laws_of t.greys).cleared_other p q n ∙ g)) ]
         | inr d ↦ inl (inr (inl d))
@@ -327,7 +308,3 @@ module _ (S : Start) (Todo : ℕ → Type 0) (t : Heap) (inv : Inv S Todo t) (p 
       | inr h ↦ inr (clean_grows S t (ungreyed t p) ungrey_grows a (rd S t.words q) (rd S t.words q) refl h)
     ];
   }
-    where
-      back : (c q : ℕ) → Final S (ungreyed t p) c q → Final S t c q
-      back c q (stay e h) = stay e h
-      back c q (move g) = move g

@@ -1,6 +1,6 @@
 -- What a trace remembers is right.
 use Rattle.std.proofs.Common.{◌≡◌, ℕ, zero, suc, ◌+◌, ◌-◌, ◌*◌, ◌/◌, ◌<◌, min, false, eqb, List, length, Some, None, Option, sym, refl, ap, ◌∙◌, subst, inl, inr, arith}
-use Rattle.std.proofs.lemmas.Bool.{cond_both, cond-false, cases_lt}
+use Rattle.std.proofs.lemmas.Bool.{cond_both, cases_lt}
 use Rattle.format.specs.declared.things.Shape.{Shape}
 use Rattle.format.specs.declared.things.Slot.TheVariants.{Reference}
 use Rattle.format.specs.Meaning.{Meaning}
@@ -29,16 +29,15 @@ skip : (b : List ℕ) (d k x : ℕ) → ((a : ℕ) → a < x + d → bit b a ≡
 skip b zero k x h =
     let e : 0 + k ≡ k = omega arith in
     let f : x ≡ x + 0 = omega arith in
-    ap (λ (n : ℕ). lowest_in n b x) e ∙ ap (lowest_in k b) f
+    rw (e, ← f) refl
 skip b (suc d) k x h =
     let e : suc d + k ≡ suc (d + k) = omega arith in
     let f : x + 1 + d ≡ x + suc d = omega arith in
-    ap (λ (n : ℕ). lowest_in n b x) e ∙ cond-false (bit b x) (Some x) (lowest_in (d + k) b (x + 1)) (h x (omega arith))
-    ∙ skip b d k (x + 1) (λ a l. h a (omega arith)) ∙ ap (lowest_in k b) f
+    rw (e, h x (omega arith)) (skip b d k (x + 1) (λ a l. h a (omega arith)) ∙ ap (lowest_in k b) f)
 
 none_set : (b : List ℕ) (k x : ℕ) → ((a : ℕ) → a < x + k → bit b a ≡ false) → lowest_in k b x ≡ None
 none_set b zero x h = refl
-none_set b (suc k) x h = cond-false (bit b x) (Some x) (lowest_in k b (x + 1)) (h x (omega arith)) ∙ none_set b k (x + 1) (λ a l. h a (omega arith))
+none_set b (suc k) x h = rw (h x (omega arith)) (none_set b k (x + 1) (λ a l. h a (omega arith)))
 
 lowest_of_all : (b : List ℕ) (n : ℕ) → ((a : ℕ) → a < n → bit b a ≡ false) → lowest_bit b n ≡ lowest_bit b 0
 lowest_of_all b n h = elim (cases_lt n (reach b)) [

@@ -1,17 +1,17 @@
 -- Rounds, registers, and nailed objects.
-use Rattle.std.proofs.Common.{◌≡◌, ℕ, zero, suc, ◌/◌, ◌%◌, ◌<◌, ◌≤◌, min, Bool, true, false, ◌≢◌, ◌⊎◌, List, length, get_or, set, Some, None, Option, sym, refl, ap, ◌∙◌, subst, inl, inr, arith, length-set}
+use Rattle.std.proofs.Common.{◌≡◌, ℕ, zero, suc, ◌*◌, ◌/◌, ◌%◌, ◌<◌, ◌≤◌, min, true, false, ◌≢◌, ◌⊎◌, List, length, get_or, set, Some, None, Option, refl, ap, ◌∙◌, subst, inl, inr, arith, length-set}
 use native.Mathlib.Decide.{dec_lt}
 use borrow.Author.Tests.{both_ways}
-use Rattle.std.proofs.lemmas.Bool.{cases_eq}
+use Rattle.std.proofs.lemmas.Bool.{cases_eq, false_from_ne_true}
 use Rattle.std.proofs.lemmas.List.{get_or-set_same, get_or-set_other, get_or_past, set_past}
 use Rattle.format.specs.Laws.{Lawful}
-use Rattle.arena.specs.Boards.{bit_of, bit, with_bit, reach, lowest_bit, Lowest}
+use Rattle.arena.specs.Boards.{bit, with_bit, reach, lowest_bit, Lowest}
 use Rattle.arena.proofs.BoardLaws.{laws_of}
 use Rattle.arena.proofs.Lowest.{zero_bit}
 use Rattle.trace.specs.Traces.{Heap, fixed, fix_answer, scanned, ungreyed, turned, next, rounded}
 use Rattle.trace.specs.Collections.{Rooted, rooted, roots_fixed, nailed_at}
-use Rattle.trace.proofs.Cells.{grey, rd, Start, Std, Obj, Names, Final, Settled, empty, Body, Clean, Inv, Grows, Sound}
-use Rattle.trace.proofs.Facts.{board_keeps, board_set, names_map, settled_grows, grows_refl, grows_trans, final_grows, final_cell}
+use Rattle.trace.proofs.Cells.{grey, rd, Start, Std, Obj, Names, Final, Settled, empty, Body, Inv, Grows, Sound}
+use Rattle.trace.proofs.Facts.{board_keeps, board_set, names_map, settled_grows, grows_refl, grows_trans, final_grows, final_cell, one_cell}
 use Rattle.trace.proofs.Marking.{mark_ok, mark_grows}
 use Rattle.trace.proofs.Putting.{inv_todo, ungrey_ok, ungrey_grows}
 use Rattle.trace.proofs.Counting.{count_below, count_none}
@@ -24,12 +24,8 @@ pub record Went (S : Start) (Todo : ℕ → Type 0) (t u : Heap) : Type 0 where
   pub grows : Grows S t u
 
 module _ (S : Start) (ok : Sound S) (laws : Lawful S.meaning) where
-  -- two objects are not in one place
   pub one_place : (Todo : ℕ → Type 0) (t : Heap) → Inv S Todo t → (a c p q : ℕ) → Std S a → Std S c → Final S t a p → Final S t c q → q ≡ p → c ≡ a
-  one_place Todo t inv a c p q s r f g e = elim (inv.apart c q a p r s (final_cell S t c q g) (final_cell S t a p f)) [
-    | inl y ↦ y.0
-    | inr y ↦ elim y [ inl z ↦ absurd (omega (arith, ok.some c r)) | inr z ↦ absurd (omega (arith, ok.some a s)) ]
-  ]
+  one_place Todo t inv a c p q s r f g e = one_cell S ok Todo t inv a c p q s r (final_cell S t a p f) (final_cell S t c q g) e
 
   pub scan_place : (Todo : ℕ → Type 0) (t : Heap) (a p : ℕ) → Inv S (λ q. Todo q ⊎ (q ≡ p)) t → Obj S a → Final S t a p
       → Went S (λ q. Todo q × (q ≢ p)) t (scanned S.meaning S.plan t p)
@@ -41,8 +37,7 @@ module _ (S : Start) (ok : Sound S) (laws : Lawful S.meaning) where
       record {
         grows = r.grows;
         inv = inv_todo S (λ q. Todo q ⊎ (q ≡ p)) (λ q. Todo q × (q ≢ p)) u r.inv (λ c q h g d. elim (cases_eq q p) [
-          | inl e ↦ inr (subst (λ (y : ℕ). Clean S u c (rd S u.words y)) (sym e)
-              (subst (λ (y : ℕ). Clean S u y (rd S u.words p)) (sym (one_place (λ q. Todo q ⊎ (q ≡ p)) u r.inv a c p q s.0 h.0 f' g e)) k))
+          | inl e ↦ inr (rw (e, one_place (λ q. Todo q ⊎ (q ≡ p)) u r.inv a c p q s.0 h.0 f' g e) k)
           | inr n ↦ inl (elim d [ inl y ↦ (y, n) | inr y ↦ absurd (n y) ])
         ]);
       }
@@ -62,18 +57,13 @@ module _ (S : Start) (ok : Sound S) (laws : Lawful S.meaning) where
         below = omega (arith, l.1, inv.ready.greys, inv.long);
       }
 
+  white_past : (t : Heap) (p : ℕ) → 32 * length t.greys ≤ p → grey t p ≡ false
+  white_past t p h = rw (get_or_past t.greys (p / 32) 0 (omega arith)) (zero_bit (p % 32))
+
   none_grey : (Todo : ℕ → Type 0) (t : Heap) → Inv S Todo t → lowest_bit t.greys t.state.low ≡ None → (p : ℕ) → grey t p ≡ false
-  none_grey Todo t inv e p = go (grey t p) refl
-    where
-      l : Lowest t.greys t.state.low None
-      l = subst (Lowest t.greys t.state.low) e ((laws_of t.greys).lowest t.state.low)
-
-      past : reach t.greys ≤ p → grey t p ≡ false
-      past h = ap (λ (w : ℕ). bit_of w (p % 32)) (get_or_past t.greys (p / 32) 0 (omega (arith, inv.ready.greys, inv.ready.few))) ∙ zero_bit (p % 32)
-
-      go : (x : Bool) → grey t p ≡ x → grey t p ≡ false
-      go false h = h
-      go true h = elim (dec_lt p (reach t.greys)) [ yes k ↦ l p (inv.bound p h) k | no k ↦ past (omega arith) ]
+  none_grey Todo t inv e p =
+      let l = subst (Lowest t.greys t.state.low) e ((laws_of t.greys).lowest t.state.low) in
+      false_from_ne_true (grey t p) (λ h. both_ways (grey t p) (elim (dec_lt p (reach t.greys)) [ yes k ↦ l p (inv.bound p h) k | no k ↦ white_past t p (omega (arith, inv.ready.greys, inv.ready.few)) ]) h)
 
   pub record Round (Todo : ℕ → Type 0) (t u : Heap) : Type 0 where
     pub went : Went S Todo t u
@@ -112,7 +102,7 @@ module _ (S : Start) (ok : Sound S) (laws : Lawful S.meaning) where
   rounds_done : (k : ℕ) (Todo : ℕ → Type 0) (t : Heap) → Inv S Todo t → pot S t ≤ k → (p : ℕ) → grey (rounded S.meaning S.plan k t) p ≡ false
   rounds_done zero Todo t inv h p = elim (dec_lt p (length S.space.words)) [
     | yes l ↦ busy_off S t p (count_none (busy S t) (length S.space.words) h p l)
-    | no l ↦ ap (λ (w : ℕ). bit_of w (p % 32)) (get_or_past t.greys (p / 32) 0 (omega (arith, inv.ready.greys, inv.long))) ∙ zero_bit (p % 32)
+    | no l ↦ white_past t p (omega (arith, inv.ready.greys, inv.long))
   ]
   rounds_done (suc k) Todo t inv h p = go (λ u i l. rounds_done k Todo u i l p) (lowest_bit t.greys t.state.low) refl
     where
@@ -146,7 +136,7 @@ module _ (S : Start) (ok : Sound S) (laws : Lawful S.meaning) where
       let r = get_or rs k 0 in
       let e : get_or x.roots k 0 ≡ r = b.after k (omega arith) in
       let f : Fixed S Todo v r (fix_answer S.meaning S.plan v (get_or x.roots k 0)) (fixed S.meaning S.plan v (get_or x.roots k 0)) =
-      subst (λ (z : ℕ). Fixed S Todo v r (fix_answer S.meaning S.plan v z) (fixed S.meaning S.plan v z)) (sym e)
+      rw e
       (fix_ok S ok laws Todo v b.inv r r (names_map S t.words v.words b.grows.moves r r (h k (omega arith)))) in
       let u = fixed S.meaning S.plan v (get_or x.roots k 0) in
       let q = fix_answer S.meaning S.plan v (get_or x.roots k 0) in
@@ -154,8 +144,8 @@ module _ (S : Start) (ok : Sound S) (laws : Lawful S.meaning) where
         inv = f.inv;
         grows = grows_trans S t v u b.grows f.grows;
         settled = λ i l. elim (cases_eq i k) [
-          | inl z ↦ subst (λ (j : ℕ). Settled S u (get_or rs j 0) (get_or (set x.roots k q) j 0)) (sym z) (here_settled x.roots rs k q u b.long f.settled)
-          | inr n ↦ subst (Settled S u (get_or rs i 0)) (sym (get_or-set_other x.roots k i q 0 n)) (settled_grows S v u f.grows (get_or rs i 0) (get_or x.roots i 0) (b.settled i (omega arith)))
+          | inl z ↦ rw z (here_settled x.roots rs k q u b.long f.settled)
+          | inr n ↦ rw (get_or-set_other x.roots k i q 0 n) (settled_grows S v u f.grows (get_or rs i 0) (get_or x.roots i 0) (b.settled i (omega arith)))
         ];
         after = λ i l. get_or-set_other x.roots k i q 0 (omega arith) ∙ b.after i (omega arith);
         long = length-set x.roots k q ∙ b.long;
@@ -164,7 +154,7 @@ module _ (S : Start) (ok : Sound S) (laws : Lawful S.meaning) where
       -- past the registers there is null, and it stays
       here_settled : (qs rs : List ℕ) (k q : ℕ) (u : Heap) → length qs ≡ length rs → Settled S u (get_or rs k 0) q → Settled S u (get_or rs k 0) (get_or (set qs k q) k 0)
       here_settled qs rs k q u e s = elim (dec_lt k (length qs)) [
-        | yes l ↦ subst (Settled S u (get_or rs k 0)) (sym (get_or-set_same qs k q 0 l)) s
+        | yes l ↦ rw (get_or-set_same qs k q 0 l) s
         | no l ↦ empty (get_or_past rs k 0 (omega arith)) (ap (λ (z : List ℕ). get_or z k 0) (set_past qs k q (omega arith)) ∙ get_or_past qs k 0 (omega arith))
       ]
 

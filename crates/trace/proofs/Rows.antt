@@ -2,20 +2,21 @@
 use Rattle.std.proofs.Common.{◌≡◌, ℕ, zero, suc, ◌+◌, ◌*◌, ◌/◌, ◌%◌, ◌<◌, ◌≤◌, Bool, true, false, ◌&&◌, ◌||◌, eqb, ltb, ◌≢◌, ◌⊎◌, List, length, get_or, sym, refl, ap, ◌∙◌, subst, inl, inr, arith, ltb-true, ne_eqb, eqb-true, Some, None}
 use native.Mathlib.Decide.{dec_lt}
 use borrow.Author.Tests.{both_ways}
-use Rattle.std.proofs.lemmas.Bool.{cases_Bool, cases_eq, and_parts, and_from, and_right, or_from, or_left, or_right, lt-ltb, eq-eqb}
+use Rattle.std.proofs.lemmas.Bool.{cases_Bool, cases_eq, and_parts, and_from, and_right, or_cases, or_from, false_from_ne_true, or_left, or_right, lt-ltb, eq-eqb}
 use Rattle.format.specs.declared.things.Slot.{Slot}
 use Rattle.format.specs.declared.things.Slot.TheVariants.{Reference, Number}
 use Rattle.format.specs.Meaning.{Meaning, Thing, nothing, object, forwarded, padding, thing_at, span}
 use Rattle.format.specs.Laws.{Lawful}
 use Rattle.format.proofs.Memory.{readings}
-use Rattle.arena.specs.Segments.{Owner, owner_of}
+use Rattle.arena.specs.Segments.{Owner}
 use Rattle.trace.specs.Traces.{condemns, Heap}
 use Rattle.trace.specs.Keeping.{Piece, Row, ends, piece, is_base, is_owned, ObjectAt, Leads, SlotLeads, SlotLeaf}
 use Rattle.trace.specs.Keeping.{Sound as SoundSpace}
 use Rattle.trace.proofs.Cells.{Apart, slots_of, layout_of, owner, target, marked, grey, stays, rd, owner0, leafy, Start, Std, thing0, size0, layout0, slots0, Obj, Fits, AllFit, Moved, Cell, same, copy, Names, null, names, Final, stay, move, Settled, empty, Body, Held, here, still, Clean, Null, Room, unused, ahead, Owned, Inv, Sound}
 use Rattle.trace.proofs.Facts.{not_staying}
 use Rattle.trace.proofs.Marking.{unmoved}
-use Rattle.trace.proofs.Spots.{pool_not_free, pool_same}
+use Rattle.trace.proofs.Putting.{seg_apart}
+use Rattle.trace.proofs.Spots.{pool_same}
 
 -- an object or a padding, of at least one word
 pub record Sorted (M : Meaning) (x : Thing) : Type 0 where
@@ -30,17 +31,15 @@ piece_kind M (padding k) h = inr refl
 
 piece_real : (x : Thing) → Piece x → x ≢ nothing
 piece_real nothing h e = h
-piece_real (object l ss) h e = let z : ◌≡◌ {A = ℕ} 0 1 = cc in omega arith
+piece_real (object l ss) h e = cc
 piece_real (forwarded k to) h e = h
-piece_real (padding k) h e = let z : ◌≡◌ {A = ℕ} 0 1 = cc in omega arith
+piece_real (padding k) h e = cc
 
 pub sorted : (M : Meaning) → Lawful M → (m : List ℕ) (a : ℕ) → Piece (thing_at M m a) → Sorted M (thing_at M m a)
 sorted M laws m a h = record { some = ((readings M laws).spans m a (piece_real (thing_at M m a) h)).0; kind = piece_kind M (thing_at M m a) h }
 
 pub base_cases : (x y z : Bool) → (x && (y || z)) ≡ true → (x ≡ true) × ((y ≡ true) ⊎ (z ≡ true))
-base_cases true true z h = (refl, inl refl)
-base_cases true false z h = (refl, inr h)
-base_cases false y z h = absurd (both_ways false refl h)
+base_cases x y z h = let a = and_parts x (y || z) h in (a.0, or_cases y z a.1)
 
 -- the first thing of a row is a base, and so are those that follow it
 module _ (M : Meaning) (m : List ℕ) (e k a : ℕ) (low : a < e) where
@@ -63,19 +62,19 @@ pub record Within (M : Meaning) (m : List ℕ) (a e q : ℕ) : Type 0 where
 
 module _ (M : Meaning) (laws : Lawful M) (m : List ℕ) (e : ℕ) where
   pub in_row : (k a q : ℕ) → Row M m e a → is_base M m e k a q ≡ true → Within M m a e q
-  in_row zero a q r h = absurd (both_ways false refl h)
+  in_row zero a q r h = cc
   in_row (suc k) a q ends h =
       let c = base_cases (ltb e e) (eqb e q) (is_base M m e k (e + span M (thing_at M m e)) q) h in
       absurd (omega (arith, ltb-true e e c.0))
   in_row (suc k) a q (piece b s l r) h =
       let c = base_cases (ltb a e) (eqb a q) (is_base M m e k (a + span M (thing_at M m a)) q) h in
       elim c.1 [
-        | inl y ↦ subst (λ (z : ℕ). Within M m a e z) (eqb-true a q y) (record { low = omega arith; high = l; sort = sorted M laws m a s })
+        | inl y ↦ rw (← eqb-true a q y) (record { low = omega arith; high = l; sort = sorted M laws m a s })
         | inr y ↦ (let w = in_row k (a + span M (thing_at M m a)) q r y in record { low = omega (arith, w.low); high = w.high; sort = w.sort })
       ]
 
   pub row_apart : (k a p q : ℕ) → Row M m e a → is_base M m e k a p ≡ true → is_base M m e k a q ≡ true → (p ≡ q) ⊎ Apart p (span M (thing_at M m p)) q (span M (thing_at M m q))
-  row_apart zero a p q r h g = absurd (both_ways false refl h)
+  row_apart zero a p q r h g = cc
   row_apart (suc k) a p q ends h g =
       let c = base_cases (ltb e e) (eqb e q) (is_base M m e k (e + span M (thing_at M m e)) q) g in
       absurd (omega (arith, ltb-true e e c.0))
@@ -86,21 +85,21 @@ module _ (M : Meaning) (laws : Lawful M) (m : List ℕ) (e : ℕ) where
         | inl x ↦ elim d.1 [
           | inl y ↦ inl (sym (eqb-true a p x) ∙ eqb-true a q y)
           | inr y ↦ (let w = in_row k (a + span M (thing_at M m a)) q r y in
-              inr (subst (λ (z : ℕ). Apart z (span M (thing_at M m z)) q (span M (thing_at M m q))) (eqb-true a p x) (inl w.low)))
+              inr (rw (← eqb-true a p x) (inl w.low)))
         ]
         | inr x ↦ elim d.1 [
           | inl y ↦ (let w = in_row k (a + span M (thing_at M m a)) p r x in
-              inr (subst (λ (z : ℕ). Apart p (span M (thing_at M m p)) z (span M (thing_at M m z))) (eqb-true a q y) (inr w.low)))
+              inr (rw (← eqb-true a q y) (inr w.low)))
           | inr y ↦ row_apart k (a + span M (thing_at M m a)) p q r x y
         ]
       ]
 
 pub owner_is : (o : Owner) → is_owned o ≡ true → (p : ℕ) × (o ≡ Some p)
-owner_is None h = absurd (both_ways false refl h)
+owner_is None h = cc
 owner_is (Some p) h = (p, refl)
 
 pub self_object : (x : Thing) (l : ℕ) (ss : List Slot) → x ≡ object l ss → x ≡ object (layout_of x) (slots_of x)
-self_object x l ss e = subst (λ (z : Thing). z ≡ object (layout_of z) (slots_of z)) (sym e) refl
+self_object x l ss e = rw e refl
 
 module _ (S : Start) (laws : Lawful S.meaning) (ar : SoundSpace S.meaning S.plan.classes S.space) where
   abbrev M : Meaning
@@ -130,7 +129,7 @@ module _ (S : Start) (laws : Lawful S.meaning) (ar : SoundSpace S.meaning S.plan
 
   seat_low : (q : ℕ) → Std S q → 256 ≤ q
   seat_low q h = elim (cases_eq (q / 256) 0) [
-    | inl e ↦ absurd (pool_not_free (seat q h).pool (owner0 S (q / 256)) (seat q h).owner (ap (owner0 S) e ∙ ar.first))
+    | inl e ↦ (cc)
     | inr n ↦ omega arith
   ]
 
@@ -160,19 +159,13 @@ module _ (S : Start) (laws : Lawful S.meaning) (ar : SoundSpace S.meaning S.plan
     refs = λ a o i. refs_fit (get_or (slots0 S a) i (Number 0)) (ar.leads a (layout0 S a) i (slots0 S a) (at_obj a o));
     apart = λ a c s r. let x = seat a s in let y = seat c r in elim (cases_eq (a / 256) (c / 256)) [
       | inl e ↦ row_apart M laws m (a / 256 * 256 + 256) 256 (a / 256 * 256) a c (ar.rows (a / 256) x.pool x.owner) x.base (subst (λ (s : ℕ). is_base M m (s * 256 + 256) 256 (s * 256) c ≡ true) (sym e) y.base)
-      | inr n ↦ inr (far a c n x.within.high y.within.high)
+      | inr n ↦ inr (seg_apart a (size0 S a) c (size0 S c) n (omega (arith, x.within.high)) (omega (arith, y.within.high)))
     ];
     seg = λ a s. (let h : a + size0 S a ≤ a / 256 * 256 + 256 = (seat a s).within.high in omega arith);
     inside = λ a s. (seat a s).below;
-    used = λ a s e. pool_not_free (seat a s).pool (owner0 S (a / 256)) (seat a s).owner e;
+    used = λ a s e. (cc);
     top = ar.whole.2;
   }
-    where
-      far : (a c : ℕ) → a / 256 ≢ c / 256 → a + size0 S a ≤ a / 256 * 256 + 256 → c + size0 S c ≤ c / 256 * 256 + 256 → Apart a (size0 S a) c (size0 S c)
-      far a c n x y = elim (dec_lt a c) [ yes l ↦ inl (go a c (size0 S a) n x l) | no l ↦ inr (go c a (size0 S c) (λ e. n (sym e)) y (omega arith)) ]
-        where
-          go : (a c k : ℕ) → a / 256 ≢ c / 256 → a + k ≤ a / 256 * 256 + 256 → a < c → a + k ≤ c
-          go a c k n x l = let z : a / 256 < c / 256 = omega arith in omega arith
 
   -- how a trace begins
   pub record Fresh (t : Heap) : Type 0 where
@@ -193,7 +186,7 @@ module _ (S : Start) (laws : Lawful S.meaning) (ar : SoundSpace S.meaning S.plan
 
   module _ (t : Heap) (fr : Fresh t) where
     own : (s : ℕ) → owner t s ≡ owner0 S s
-    own s = ap (λ g. owner_of g s) fr.segments
+    own s = rw fr.segments refl
 
     no_aim : (p : ℕ) → 1 ≤ target t p % 256 → ⊥
     no_aim p h = let z = fr.aims p in omega arith
@@ -207,7 +200,7 @@ module _ (S : Start) (laws : Lawful S.meaning) (ar : SoundSpace S.meaning S.plan
     no_move : (a d : ℕ) → Std S a → Moved S t.words a d → ⊥
     no_move a d s g = elim (sound.thing a s) [
       | inl e ↦ unmoved S t.words a a d (at a (s, e)) g refl
-      | inr e ↦ (let f : rd S t.words a ≡ padding (size0 S a) = rw fr.words e in let z : ◌≡◌ {A = ℕ} 0 1 = cc in absurd (omega arith))
+      | inr e ↦ (let f : rd S t.words a ≡ padding (size0 S a) = rw fr.words e in cc)
     ]
 
     cell : (a p : ℕ) → Std S a → Cell S t.words a p → p ≡ a
@@ -223,7 +216,7 @@ module _ (S : Start) (laws : Lawful S.meaning) (ar : SoundSpace S.meaning S.plan
     outside_cells w a s (unused x y e) =
         let k = seat a s in
         let hi : a + size0 S a ≤ a / 256 * 256 + 256 = k.within.high in
-        let n : w / 256 ≢ a / 256 = λ f. pool_not_free k.pool (owner0 S (a / 256)) k.owner (ap (owner0 S) (sym f) ∙ sym (own (w / 256)) ∙ e) in
+        let n : w / 256 ≢ a / 256 = λ f. (cc) in
         elim (dec_lt w a) [ yes l ↦ inl l | no l ↦ inr (let z : a / 256 < w / 256 = omega arith in omega arith) ]
 
     leaf_settled : (x : Slot) → Fits Null x x → Fits (Settled S t) x x
@@ -233,18 +226,14 @@ module _ (S : Start) (laws : Lawful S.meaning) (ar : SoundSpace S.meaning S.plan
     leaf_of : (a : ℕ) (s : Std S a) → leafy S (seat a s).pool ≡ true → AllFit Null (slots0 S a) (slots0 S a)
     leaf_of a s h = elim (sound.thing a s) [
       | inl e ↦ (λ i. leaf_fit (get_or (slots0 S a) i (Number 0)) (ar.leaves a (layout0 S a) i (seat a s).pool (slots0 S a) (at_obj a (s, e)) (seat a s).owner h))
-      | inr e ↦ subst (λ (z : Thing). AllFit Null (slots_of z) (slots_of z)) (sym e) (λ i. refl)
+      | inr e ↦ rw e (λ i. refl)
     ]
 
     owned_at : (a : ℕ) → Std S a → Owned S t a
     owned_at a s = let x = seat a s in record { pool = x.pool; is = own (a / 256) ∙ x.owner; was = x.owner; leaf = leaf_of a s }
 
     zone : (a : ℕ) → Std S a → stays S t a ≡ true → condemns S.plan a ≡ false
-    zone a s h = go (condemns S.plan a) refl
-      where
-        go : (x : Bool) → condemns S.plan a ≡ x → condemns S.plan a ≡ false
-        go false k = k
-        go true k = absurd (both_ways (stays S t a) (not_staying S t a (omega (arith, sound.low a s)) k (fr.unmarked a)) h)
+    zone a s h = false_from_ne_true (condemns S.plan a) (λ k. both_ways (stays S t a) (not_staying S t a (omega (arith, sound.low a s)) k (fr.unmarked a)) h)
 
     clean_at : (a p : ℕ) → Obj S a → Final S t a p → ((grey t p ≡ true) ⊎ Outside p) ⊎ Clean S t a (rd S t.words p)
     clean_at a p s (move g) = absurd (no_move a p s.0 g)
@@ -257,29 +246,29 @@ module _ (S : Start) (laws : Lawful S.meaning) (ar : SoundSpace S.meaning S.plan
     begins = record {
       long = ap length fr.words;
       ready = record {
-        whole = ap (λ (k : List ℕ). length k % 256) fr.words ∙ ar.whole.0;
-        few = subst (λ (k : List ℕ). length k ≤ 65536) (sym fr.words) ar.whole.1;
+        whole = rw fr.words ar.whole.0;
+        few = rw fr.words ar.whole.1;
         owned = λ p h. absurd (no_aim p h);
         unused = λ s e. fr.safe s (sym (own s) ∙ e);
         marks = fr.marks ∙ sym (ap length fr.words);
         greys = fr.greys ∙ sym (ap length fr.words);
-        owners = ap (λ g. length g.owners) fr.segments ∙ ar.owners;
+        owners = rw fr.segments ar.owners;
         targets = fr.targets;
       };
       owned = owned_at;
       held = held_at;
       apart = λ a p c q s r e f. join a p c q (cell a p s e) (cell c q r f) (sound.apart a c s r);
       copied = λ a d s g. absurd (no_move a d s g);
-      room = λ w a p f s e. subst (λ (q : ℕ). (w < q) ⊎ (q + size0 S a ≤ w)) (sym (cell a p s e)) (outside_cells w a s f);
+      room = λ w a p f s e. rw (cell a p s e) (outside_cells w a s f);
       greys = λ p h. absurd (both_ways (grey t p) (fr.white p) h);
-      bound = λ p h. subst (λ (n : ℕ). n ≤ p) (sym fr.low) (omega arith);
+      bound = λ p h. rw fr.low (omega arith);
       fill = record {
-        fronts = λ s p e o. absurd (pool_not_free p (owner0 S s) (sym (own s) ∙ o) e);
+        fronts = λ s p e o. (cc);
         aims = λ p h. absurd (no_aim p h);
         empty = λ s e. sym (own s) ∙ e;
-        pools = λ s p e. (let o = ar.owned s p (sym (own s) ∙ e) in (o.0, subst (λ (k : List ℕ). s * 256 + 256 ≤ length k) (sym fr.words) o.1));
+        pools = λ s p e. (let o = ar.owned s p (sym (own s) ∙ e) in (o.0, rw fr.words o.1));
         low = own 0 ∙ ar.first;
-        plain = λ s p e o. absurd (pool_not_free p (owner0 S s) (sym (own s) ∙ o) e);
+        plain = λ s p e o. (cc);
       };
       marked = λ p h. absurd (both_ways (marked t p) (fr.unmarked p) h);
       blank = λ w e. ap (λ (k : List ℕ). get_or k w 0) fr.words ∙ ar.blank w (sym (own (w / 256)) ∙ e);

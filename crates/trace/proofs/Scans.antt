@@ -52,12 +52,11 @@ module _ (S : Start) (ok : Sound S) (laws : Lawful S.meaning) (Todo : ℕ → Ty
   settled_names t r v (settled s f) = names s (final_cell S t r v f)
 
   done_keeps : (t u : Heap) (i : ℕ) → Final S t a p → Grows S t u → Keeps S t u → Done S t a p i → Done S u a p i
-  done_keeps t u i f g k d j h =
-      rw (k a p sa f) (fits_map (settled_grows S t u g) (get_or (slots0 S a) j (Number 0)) (slot_at S t.words p j) (d j h))
+  done_keeps t u i f g k d j h = rw (k a p sa f) (fits_map (settled_grows S t u g) (get_or (slots0 S a) j (Number 0)) (slot_at S t.words p j) (d j h))
 
   done_more : (t : Heap) (i : ℕ) → Done S t a p i → Fits (Settled S t) (get_or (slots0 S a) i (Number 0)) (slot_at S t.words p i) → Done S t a p (suc i)
   done_more t i d h j l = elim (cases_eq j i) [
-    | inl e ↦ subst (λ (j : ℕ). Fits (Settled S t) (get_or (slots0 S a) j (Number 0)) (slot_at S t.words p j)) (sym e) h
+    | inl e ↦ rw e h
     | inr n ↦ d j (omega arith)
   ]
 
@@ -81,7 +80,7 @@ module _ (S : Start) (ok : Sound S) (laws : Lawful S.meaning) (Todo : ℕ → Ty
       inside' = rw body'.many inside
 
       sh_now : shape (layout0 S a) (length (slots_of (rd S u.words p))) ≡ sh
-      sh_now = ap (shape (layout0 S a)) body'.many
+      sh_now = rw body'.many refl
 
       may : holds S.meaning (shape (layout0 S a) (length (slots_of (rd S u.words p)))) i (Reference q) ≡ true
       may =
@@ -94,10 +93,7 @@ module _ (S : Start) (ok : Sound S) (laws : Lawful S.meaning) (Todo : ℕ → Ty
       k = rewritten (S.meaning.with_slot sh i (Reference q)) p (size0 S a) u.words
 
       pt : Putting S u.words k p (size0 S a) i (Reference q)
-      pt =
-          subst (λ (n : ℕ). Putting S u.words (rewritten (S.meaning.with_slot sh i (Reference q)) p n u.words) p n i (Reference q)) size_is
-          (subst (λ (z : Shape). Putting S u.words (rewritten (S.meaning.with_slot z i (Reference q)) p (S.meaning.size z) u.words) p (S.meaning.size z) i (Reference q)) sh_now
-          (putting S laws u.words p (layout0 S a) (slots_of (rd S u.words p)) body'.shape i (Reference q) inside' may))
+      pt = rw (← size_is, ← sh_now) (putting S laws u.words p (layout0 S a) (slots_of (rd S u.words p)) body'.shape i (Reference q) inside' may)
 
       fits : Fits (Names S u.words) (get_or (slots0 S a) i (Number 0)) (Reference q)
       fits = rw was (settled_names u r q fx.settled)
@@ -121,10 +117,9 @@ module _ (S : Start) (ok : Sound S) (laws : Lawful S.meaning) (Todo : ℕ → Ty
         grows = grows_trans S t u (put_words u k) fx.grows pg;
         falls = le_trans (put_falls S ok Todo u fx.inv a p oa f' todo k i (Reference q) pt inside' fits) fx.falls;
         done = done_more (put_words u k) i
-            (λ j h. subst (λ (y : Slot). Fits (Settled S (put_words u k)) (get_or (slots0 S a) j (Number 0)) y) (sym (ap (λ (zs : List Slot). get_or zs j (Number 0)) ps ∙ get_or-set_other (slots_of (rd S u.words p)) i j (Reference q) (Number 0) (omega arith)))
+            (λ j h. rw (ap (λ (zs : List Slot). get_or zs j (Number 0)) ps ∙ get_or-set_other (slots_of (rd S u.words p)) i j (Reference q) (Number 0) (omega arith))
             (fits_map (settled_grows S u (put_words u k) pg) (get_or (slots0 S a) j (Number 0)) (slot_at S u.words p j) (done_keeps t u i f fx.grows fx.keeps d j h)))
-            (subst (λ (y : Slot). Fits (Settled S (put_words u k)) (get_or (slots0 S a) i (Number 0)) y) (sym (ap (λ (zs : List Slot). get_or zs i (Number 0)) ps ∙ get_or-set_same (slots_of (rd S u.words p)) i (Reference q) (Number 0) inside'))
-            (rw was (settled_grows S u (put_words u k) pg r q fx.settled)));
+            (rw (ap (λ (zs : List Slot). get_or zs i (Number 0)) ps ∙ get_or-set_same (slots_of (rd S u.words p)) i (Reference q) (Number 0) inside', was) (settled_grows S u (put_words u k) pg r q fx.settled));
       }
 
     one_slot : (z x : Slot) → get_or (slots0 S a) i (Number 0) ≡ z → slot_at S t.words p i ≡ x → Fits (Names S t.words) z x
@@ -137,14 +132,11 @@ module _ (S : Start) (ok : Sound S) (laws : Lawful S.meaning) (Todo : ℕ → Ty
 
     slot_now : S.meaning.slot sh (part p (size0 S a) t.words) i ≡ slot_at S t.words p i
     slot_now =
-        subst (λ (n : ℕ). S.meaning.slot sh (part p n t.words) i ≡ slot_at S t.words p i) size_is
-        (subst (λ (z : Shape). S.meaning.slot z (part p (S.meaning.size z) t.words) i ≡ slot_at S t.words p i) (ap (shape (layout0 S a)) body.many)
-        (slot_here S.meaning laws t.words p (layout0 S a) (slots_of (rd S t.words p)) body.shape i (Number 0) (omega (arith, body.many))))
+        rw (← size_is, ← ap (shape (layout0 S a)) body.many) (slot_here S.meaning laws t.words p (layout0 S a) (slots_of (rd S t.words p)) body.shape i (Number 0) (omega (arith, body.many)))
 
     pub slot_ok : Scanning S Todo t a p (suc i) (slot_fixed S.meaning S.plan t p (size0 S a) sh i)
     slot_ok =
-        subst (λ (x : Slot). Scanning S Todo t a p (suc i) (by_slot S.meaning S.plan t p (size0 S a) sh i x)) (sym slot_now)
-        (one_slot (get_or (slots0 S a) i (Number 0)) (slot_at S t.words p i) refl refl (body.names i))
+        rw slot_now (one_slot (get_or (slots0 S a) i (Number 0)) (slot_at S t.words p i) refl refl (body.names i))
 
   pub slots_ok : (k : ℕ) (t : Heap) → Inv S Todo t → k ≤ length (slots0 S a) → Final S t a p → Scanning S Todo t a p k (slots_fixed S.meaning S.plan t p (size0 S a) sh k)
   slots_ok zero t inv l f = record { inv = inv; grows = grows_refl S t; falls = omega arith; done = λ j h. absurd (omega arith) }
@@ -164,15 +156,15 @@ module _ (S : Start) (ok : Sound S) (laws : Lawful S.meaning) (Todo : ℕ → Ty
       let h : head_at S.meaning t.words p ≡ Object sh =
       seen_object S.meaning laws t.words p (layout0 S a) (slots_of (rd S t.words p)) b.shape (limit_of p) (omega arith)
       ∙ ap (λ (n : ℕ). Object (shape (layout0 S a) n)) b.many in
-      subst (Scanning S Todo t a p (length (slots0 S a)))
-      (sym (cond-false (ltb 65535 p) t _ (le-ltb 65535 p (omega (arith, inv.ready.few)))
-      ∙ cond-false (ltb (length t.words) (limit_of p)) t _ (le-ltb (length t.words) (limit_of p) (omega arith))
-      ∙ ap (by_object S.meaning S.plan t p) h))
-      (subst (λ (n : ℕ). Scanning S Todo t a p (length (slots0 S a)) (slots_fixed S.meaning S.plan t p n sh (length (slots0 S a)))) (sym size_is)
-      (slots_ok (length (slots0 S a)) t inv (omega arith) f))
+      rw (
+        cond-false (ltb 65535 p) t _ (le-ltb 65535 p (omega (arith, inv.ready.few)))
+            ∙ cond-false (ltb (length t.words) (limit_of p)) t _ (le-ltb (length t.words) (limit_of p) (omega arith))
+            ∙ ap (by_object S.meaning S.plan t p) h,
+        size_is,
+      ) (slots_ok (length (slots0 S a)) t inv (omega arith) f)
     where
       cell_inside : (t : Heap) → Inv S Todo t → Cell S t.words a p → p / 256 * 256 + 256 ≤ length t.words
-      cell_inside t inv (same e) = subst (λ (x : ℕ). x / 256 * 256 + 256 ≤ length t.words) (sym e) (omega (arith, ok.inside a sa, inv.long))
+      cell_inside t inv (same e) = rw e (omega (arith, ok.inside a sa, inv.long))
       cell_inside t inv (copy g) = omega (arith, (inv.copied a p sa g).high, ok.some a sa, inv.ready.whole)
 
   -- all slots settled: past the last there are none

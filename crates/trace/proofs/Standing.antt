@@ -1,7 +1,7 @@
 -- After the sweep the arena is sound again, and its objects are those that were kept.
-use Rattle.std.proofs.Common.{◌≡◌, ℕ, ◌+◌, ◌-◌, ◌*◌, ◌/◌, ◌%◌, ◌<◌, ◌≤◌, Bool, true, false, ◌⊎◌, List, length, get_or, sym, refl, ap, ◌∙◌, subst, inl, inr, arith, Some, None}
+use Rattle.std.proofs.Common.{◌≡◌, ℕ, ◌+◌, ◌-◌, ◌*◌, ◌/◌, ◌%◌, ◌<◌, true, false, ◌⊎◌, List, length, get_or, sym, refl, ap, ◌∙◌, subst, inl, inr, arith, Some, None}
 use borrow.Author.Tests.{both_ways}
-use Rattle.std.proofs.lemmas.Bool.{and_parts, and_from}
+use Rattle.std.proofs.lemmas.Bool.{and_parts, and_from, true_from_ne_false}
 use Rattle.format.specs.declared.things.Slot.{Slot}
 use Rattle.format.specs.declared.things.Slot.TheVariants.{Reference, Number}
 use Rattle.format.specs.Meaning.{Meaning, Thing, nothing, object, forwarded, padding}
@@ -11,10 +11,11 @@ use Rattle.arena.specs.Segments.{owner_of}
 use Rattle.trace.specs.Traces.{condemns, Heap}
 use Rattle.trace.specs.Keeping.{space, Piece, Row, ends, piece, is_base, is_owned, SlotLeads, SlotLeaf}
 use Rattle.trace.specs.Keeping.{Sound as SoundSpace}
-use Rattle.trace.proofs.Cells.{slots_of, layout_of, owner, target, marked, grey, stays, rd, owner0, leafy, Start, Std, thing0, size0, layout0, slots0, Obj, Fits, AllFit, Moved, same, copy, Names, null, names, Final, stay, move, Settled, empty, settled, Held, here, away, still, Clean, Null, unused, Front, Inv, Sound}
-use Rattle.trace.proofs.Facts.{object_not_padding, stays_by_zone, stays_by_mark, cell_real, not_staying}
+use Rattle.trace.proofs.Cells.{slots_of, layout_of, owner, target, marked, grey, stays, rd, owner0, leafy, Start, Std, thing0, size0, layout0, slots0, Obj, Fits, AllFit, Moved, same, copy, Names, null, names, Final, stay, move, Settled, empty, settled, Held, here, away, still, Clean, Null, Front, Inv, Sound}
+use Rattle.trace.proofs.Facts.{stays_by_zone, stays_by_mark, cell_real, not_staying}
 use Rattle.trace.proofs.Putting.{final_body}
-use Rattle.trace.proofs.Spots.{pool_not_free, pool_same, owner_cases}
+use Rattle.trace.proofs.Spots.{pool_not_free, owner_cases, pool_same}
+use Rattle.trace.proofs.Putting.{cell_used}
 use Rattle.trace.proofs.Busy.{is_object}
 use Rattle.trace.proofs.Rows.{sorted, owner_is, in_row, self_object}
 use Rattle.trace.proofs.Sweeps.{Chain, Base, first, next, row_chain, row_after, base_back, base_on, base_link, object_piece, padding_piece}
@@ -22,10 +23,10 @@ use Rattle.trace.proofs.Tidying.{Outcome, calm, tidy, wiped}
 use Rattle.trace.proofs.Ends.{base_of, of_base, Built, built, chain_now, base_now, base_then}
 
 pub object_of : (x : Thing) → is_object x ≡ true → x ≡ object (layout_of x) (slots_of x)
-object_of nothing h = absurd (both_ways false refl h)
+object_of nothing h = cc
 object_of (object l ss) h = refl
-object_of (forwarded n b) h = absurd (both_ways false refl h)
-object_of (padding n) h = absurd (both_ways false refl h)
+object_of (forwarded n b) h = cc
+object_of (padding n) h = cc
 
 pub of_object : (x : Thing) (l : ℕ) (ss : List Slot) → x ≡ object l ss → is_object x ≡ true
 of_object x l ss e = ap is_object e
@@ -59,8 +60,8 @@ module _ (S : Start) (ok : Sound S) (laws : Lawful S.meaning) (t : Heap) (inv : 
       let low : a < e = omega arith in
       let s = h a (first a low) in
       let c = cell_real S ok m inv.held a a s.0 (same refl) in
-      piece a (go (inv.held a s.0) s.0 s.1) (subst (λ (n : ℕ). a + n ≤ e) (sym c.span) l)
-      (subst (λ (n : ℕ). Row M m e (a + n)) (sym c.span) (row_now e (a + size0 S a) r (λ q x. h q (next a q low x))))
+      piece a (go (inv.held a s.0) s.0 s.1) (rw c.span l)
+      (rw c.span (row_now e (a + size0 S a) r (λ q x. h q (next a q low x))))
     where
       go : Held S m a → Std S a → condemns S.plan a ≡ false → Piece (rd S m a)
       go (here b) s c = object_piece (rd S m a) (layout0 S a) (slots_of (rd S m a)) b.shape
@@ -83,14 +84,14 @@ module _ (S : Start) (ok : Sound S) (laws : Lawful S.meaning) (t : Heap) (inv : 
         | inr e ↦ row_now (s * 256 + 256) (s * 256) (rows s e.0 e.1) (λ q b. (
           standing s e.0 q e.1 b,
           (let i = base_link S S.space.words (s * 256 + 256) (s * 256) q (row_chain S laws S.space.words (s * 256 + 256) (s * 256) (rows s e.0 e.1)) b in
-              let z : q / 256 ≡ s = omega (arith, i.0, i.1, i.2.some) in subst (λ (x : ℕ). get_or S.plan.condemned x false ≡ false) (sym z) c),
+              let z : q / 256 ≡ s = omega (arith, i.0, i.1, i.2.some) in rw z c),
         ))
       ]
 
       go : Outcome S laws t.marks (get_or S.plan.condemned s false) s m k (owner t s) (owner_of g' s) → Row M k (s * 256 + 256) (s * 256)
       go (calm c e f wd) = row_after S laws m k (s * 256 + 256) (s * 256) f (s * 256) (omega arith) (before c (sym e ∙ o))
       go (tidy c e f) = f.row
-      go (wiped c e f wz) = absurd (pool_not_free p (owner_of g' s) o e)
+      go (wiped c e f wz) = cc
 
   std_next : (q s p : ℕ) → q / 256 ≡ s → owner_of g' s ≡ Some p → Base S k (s * 256 + 256) (s * 256) q → Std T q
   std_next q s p z o b =
@@ -113,11 +114,7 @@ module _ (S : Start) (ok : Sound S) (laws : Lawful S.meaning) (t : Heap) (inv : 
       go b ch (out (a / 256))
     where
       marked_a : condemns S.plan a ≡ true → marked t a ≡ true
-      marked_a c = by (marked t a) refl
-        where
-          by : (x : Bool) → marked t a ≡ x → marked t a ≡ true
-          by true e = e
-          by false e = absurd (both_ways (stays S t a) (not_staying S t a (omega (arith, ok.low a o.0)) c e) h)
+      marked_a c = true_from_ne_false (marked t a) (λ e. both_ways (stays S t a) (not_staying S t a (omega (arith, ok.low a o.0)) c e) h)
 
       go : Base S m (a / 256 * 256 + 256) (a / 256 * 256) a → Chain S m (a / 256 * 256 + 256) (a / 256 * 256)
           → Outcome S laws t.marks (get_or S.plan.condemned (a / 256) false) (a / 256) m k (owner t (a / 256)) (owner_of g' (a / 256)) → Stands a
@@ -145,8 +142,7 @@ module _ (S : Start) (ok : Sound S) (laws : Lawful S.meaning) (t : Heap) (inv : 
       go (tidy c e f) w = absurd (both_ways (condemns S.plan p) safe c)
       go (wiped c e f wz) w = absurd (both_ways (condemns S.plan p) safe c)
       go (calm c e f wd) (inl w) =
-          let h = inv.copied a p o.0 g in
-          absurd (elim (inv.room p a p (unused h.low (omega (arith, h.high, ok.some a o.0)) w) o.0 (copy g)) [ inl x ↦ omega arith | inr x ↦ omega (arith, ok.some a o.0) ])
+          absurd (cell_used S ok (λ q. ⊥) t inv a p o.0 (copy g) w)
       go (calm c e f wd) (inr w) =
           let h = inv.copied a p o.0 g in
           let b = new_built (p / 256) w.0 h.fresh w.1 (inv.fill.fronts (p / 256) w.0 h.fresh w.1) in
@@ -160,7 +156,7 @@ module _ (S : Start) (ok : Sound S) (laws : Lawful S.meaning) (t : Heap) (inv : 
           }
 
   pub final_stands : (a p : ℕ) → Obj S a → Final S t a p → Stands p
-  final_stands a p o (stay e h) = subst Stands (sym e) (stay_stands a o h)
+  final_stands a p o (stay e h) = rw e (stay_stands a o h)
   final_stands a p o (move g) = move_stands a p o g
 
   -- in the pool where it was
@@ -201,13 +197,13 @@ module _ (S : Start) (ok : Sound S) (laws : Lawful S.meaning) (t : Heap) (inv : 
           ]
         where
           no_pad : Held S m q → thing0 S q ≡ padding (size0 S q) → is_object (rd S m q) ≡ true → ⊥
-          no_pad (here b) x i = object_not_padding (thing0 S q) (layout0 S q) (size0 S q) (slots0 S q) b.was x
-          no_pad (away d g b) x i = object_not_padding (thing0 S q) (layout0 S q) (size0 S q) (slots0 S q) b.was x
+          no_pad (here b) x i = cc
+          no_pad (away d g b) x i = cc
           no_pad (still w f) x i = both_ways (is_object (rd S m q)) (ap is_object f) i
 
       go : (p : ℕ) → owner_of g' (q / 256) ≡ Some p → Base S k (q / 256 * 256 + 256) (q / 256 * 256) q → is_object (rd S k q) ≡ true
           → Outcome S laws t.marks (get_or S.plan.condemned (q / 256) false) (q / 256) m k (owner t (q / 256)) (owner_of g' (q / 256)) → Comes q
-      go p w b i (wiped c e f wz) = absurd (pool_not_free p (owner_of g' (q / 256)) w e)
+      go p w b i (wiped c e f wz) = cc
       go p w b i (tidy c e f) =
           let x = f.old q b i in
           record { from = q; obj = inv.marked q x.0; final = stay refl (stays_by_mark S t q x.0) }
@@ -216,13 +212,21 @@ module _ (S : Start) (ok : Sound S) (laws : Lawful S.meaning) (t : Heap) (inv : 
             let ch = row_chain S laws m (q / 256 * 256 + 256) (q / 256 * 256) h.row in
             let y = base_back S laws m k (q / 256 * 256 + 256) (q / 256 * 256) f (q / 256 * 256) q (omega arith) ch b in
             let l = base_link S m (q / 256 * 256 + 256) (q / 256 * 256) q ch y in
-            let v = h.owner q y (subst (λ (x : Thing). is_object x ≡ true) (f q l.0 l.2 l.1) i) in
+            let v = h.owner q y (rw (← f q l.0 l.2 l.1) i) in
             record { from = v.0; obj = v.1.0; final = move v.1.1 })
         | inr z ↦ (let ch = chain_now S ok laws (λ q. ⊥) t inv (q / 256 * 256 + 256) (q / 256 * 256) (rows (q / 256) z.0 z.1) (λ v x. standing (q / 256) z.0 v z.1 x) in
             let y = base_back S laws m k (q / 256 * 256 + 256) (q / 256 * 256) f (q / 256 * 256) q (omega arith) ch b in
             let l = base_link S m (q / 256 * 256 + 256) (q / 256 * 256) q ch y in
-            by_old z.0 z.1 c y (subst (λ (x : Thing). is_object x ≡ true) (f q l.0 l.2 l.1) i))
+            by_old z.0 z.1 c y (rw (← f q l.0 l.2 l.1) i))
       ]
+
+  own_before : (s p : ℕ) → owner_of g' s ≡ Some p → owner t s ≡ Some p
+  own_before s p e = go (out s)
+    where
+      go : Outcome S laws t.marks (get_or S.plan.condemned s false) s m k (owner t s) (owner_of g' s) → owner t s ≡ Some p
+      go (calm c f x wd) = sym f ∙ e
+      go (tidy c f x) = sym f ∙ e
+      go (wiped c f x wz) = cc
 
   module _ (white : (p : ℕ) → grey t p ≡ false) where
     pub cleaned : (a p : ℕ) → Obj S a → Final S t a p → Clean S t a (rd S m p)
@@ -242,8 +246,7 @@ module _ (S : Start) (ok : Sound S) (laws : Lawful S.meaning) (t : Heap) (inv : 
     refs_next q o i =
         let c = comes q o in
         let s = final_stands c.from q c.obj c.final in
-        subst (λ (x : Thing). Fits (Names T k) (get_or (slots_of x) i (Number 0)) (get_or (slots_of x) i (Number 0))) (sym s.reads)
-        (fits_next (get_or (slots0 S c.from) i (Number 0)) (get_or (slots_of (rd S m q)) i (Number 0)) (cleaned c.from q c.obj c.final i))
+        rw s.reads (fits_next (get_or (slots0 S c.from) i (Number 0)) (get_or (slots_of (rd S m q)) i (Number 0)) (cleaned c.from q c.obj c.final i))
 
     null_next : (x y : Slot) → Fits Null x x → Fits (Settled S t) x y → Fits Null y y
     null_next (Number v) (Number w) n h = refl
@@ -258,14 +261,11 @@ module _ (S : Start) (ok : Sound S) (laws : Lawful S.meaning) (t : Heap) (inv : 
         let i = in_row M laws k (q / 256 * 256 + 256) 256 (q / 256 * 256) q (rows_next (q / 256) p w) c.1 in
         elim i.sort.kind [
           | inl x ↦ by (comes q (h, x)) (final_stands (comes q (h, x)).from q (comes q (h, x)).obj (comes q (h, x)).final)
-          | inr x ↦ subst (λ (y : Thing). AllFit Null (slots_of y) (slots_of y)) (sym x) (λ i. refl)
+          | inr x ↦ rw x (λ i. refl)
         ]
       where
-        calm_owner : (q2 : ℕ) → owner t (q / 256) ≡ Some q2
-            → Outcome S laws t.marks (get_or S.plan.condemned (q / 256) false) (q / 256) m k (owner t (q / 256)) (owner_of g' (q / 256)) → p ≡ q2
-        calm_owner q2 o (calm c e f wd) = pool_same p q2 (owner_of g' (q / 256)) w (e ∙ o)
-        calm_owner q2 o (tidy c e f) = pool_same p q2 (owner_of g' (q / 256)) w (e ∙ o)
-        calm_owner q2 o (wiped c e f wz) = absurd (pool_not_free p (owner_of g' (q / 256)) w e)
+        calm_owner : (q2 : ℕ) → owner t (q / 256) ≡ Some q2 → p ≡ q2
+        calm_owner q2 o = pool_same p q2 (owner t (q / 256)) (own_before (q / 256) p w) o
 
         by : Comes q → Stands q → AllFit Null (slots0 T q) (slots0 T q)
         by c s = go c.final
@@ -273,16 +273,15 @@ module _ (S : Start) (ok : Sound S) (laws : Lawful S.meaning) (t : Heap) (inv : 
             go : Final S t c.from q → AllFit Null (slots0 T q) (slots0 T q)
             go (stay e y) =
                 let o = inv.owned c.from c.obj.0 in
-                let z : p ≡ o.pool = calm_owner o.pool (subst (λ (v : ℕ). owner t (v / 256) ≡ Some o.pool) (sym e) o.is) (out (q / 256)) in
-                let l = o.leaf (subst (λ (v : ℕ). leafy S v ≡ true) z lf) in
-                subst (λ (y : Thing). AllFit Null (slots_of y) (slots_of y)) (sym s.reads)
-                (λ i. null_next (get_or (slots0 S c.from) i (Number 0)) (get_or (slots_of (rd S m q)) i (Number 0)) (l i) (cleaned c.from q c.obj c.final i))
+                let z : p ≡ o.pool = calm_owner o.pool (rw e o.is) in
+                let l = o.leaf (rw (← z) lf) in
+                rw s.reads (λ i. null_next (get_or (slots0 S c.from) i (Number 0)) (get_or (slots_of (rd S m q)) i (Number 0)) (l i) (cleaned c.from q c.obj c.final i))
             go (move g) =
                 let h = inv.copied c.from q c.obj.0 g in
                 elim (owner_cases (owner t (q / 256))) [
-                  | inl z ↦ absurd (elim (inv.room q c.from q (unused h.low (omega (arith, h.high, ok.some c.from c.obj.0)) z) c.obj.0 (copy g)) [ inl x ↦ omega arith | inr x ↦ omega (arith, ok.some c.from c.obj.0) ])
-                  | inr z ↦ (let y = calm_owner z.0 z.1 (out (q / 256)) in
-                      absurd (both_ways (leafy S z.0) (inv.fill.plain (q / 256) z.0 h.fresh z.1) (subst (λ (v : ℕ). leafy S v ≡ true) y lf)))
+                  | inl z ↦ absurd (cell_used S ok (λ q. ⊥) t inv c.from q c.obj.0 (copy g) z)
+                  | inr z ↦ (let y = calm_owner z.0 z.1 in
+                      absurd (both_ways (leafy S z.0) (inv.fill.plain (q / 256) z.0 h.fresh z.1) (rw (← y) lf)))
                 ]
 
     leads_next : (x : Slot) → Fits (Names T k) x x → SlotLeads M T.space x
@@ -297,14 +296,6 @@ module _ (S : Start) (ok : Sound S) (laws : Lawful S.meaning) (t : Heap) (inv : 
     slots_are : (a l : ℕ) (ss : List Slot) → thing0 T a ≡ object l ss → slots0 T a ≡ ss
     slots_are a l ss e = ap slots_of e
 
-    own_before : (s p : ℕ) → owner_of g' s ≡ Some p → owner t s ≡ Some p
-    own_before s p e = go (out s)
-      where
-        go : Outcome S laws t.marks (get_or S.plan.condemned s false) s m k (owner t s) (owner_of g' s) → owner t s ≡ Some p
-        go (calm c f x wd) = sym f ∙ e
-        go (tidy c f x) = sym f ∙ e
-        go (wiped c f x wz) = absurd (pool_not_free p (owner_of g' s) e f)
-
     pub arena_next : length k ≡ length m → length g'.owners ≡ 256 → SoundSpace M S.plan.classes T.space
     arena_next long many = record {
       whole = (ap (λ (n : ℕ). n % 256) long ∙ inv.ready.whole, omega (arith, long, inv.ready.few), omega (arith, long, inv.long, ok.top));
@@ -312,8 +303,8 @@ module _ (S : Start) (ok : Sound S) (laws : Lawful S.meaning) (t : Heap) (inv : 
       first = zero_owner (out 0);
       owned = λ s p e. let o = inv.fill.pools s p (own_before s p e) in (o.0, omega (arith, long, o.1));
       rows = rows_next;
-      leads = λ a l i ss o. subst (λ (zs : List Slot). SlotLeads M T.space (get_or zs i (Number 0))) (slots_are a l ss o.1) (leads_next (get_or (slots0 T a) i (Number 0)) (refs_next a (o.0, self_object (thing0 T a) l ss o.1) i));
-      leaves = λ a l i p ss o w h. subst (λ (zs : List Slot). SlotLeaf (get_or zs i (Number 0))) (slots_are a l ss o.1) (leaf_next (get_or (slots0 T a) i (Number 0)) (leafs_next a p o.0 w h i));
+      leads = λ a l i ss o. rw (← slots_are a l ss o.1) (leads_next (get_or (slots0 T a) i (Number 0)) (refs_next a (o.0, self_object (thing0 T a) l ss o.1) i));
+      leaves = λ a l i p ss o w h. rw (← slots_are a l ss o.1) (leaf_next (get_or (slots0 T a) i (Number 0)) (leafs_next a p o.0 w h i));
       blank = λ w e. still_blank w e (out (w / 256));
     }
       where

@@ -1,16 +1,13 @@
 -- The sweep of a segment leaves what is marked, in a row again.
-use Rattle.std.proofs.Common.{Bool, ◌≡◌, ℕ, zero, suc, ◌+◌, ◌-◌, ◌<◌, ◌≤◌, true, false, ltb, ◌≢◌, ◌⊎◌, List, length, get_or, sym, refl, ap, ◌∙◌, subst, inl, inr, arith}
-use borrow.Author.Tests.{both_ways}
-use Rattle.std.proofs.lemmas.Bool.{cases_Bool, cond-true, cond-false, lt-ltb, le-ltb, cases_eq}
-use Rattle.format.specs.declared.things.Head.{Head}
-use Rattle.format.specs.declared.things.Head.TheVariants.{Object, Forwarded, Padding}
+use Rattle.std.proofs.Common.{◌≡◌, ℕ, zero, suc, ◌+◌, ◌-◌, ◌<◌, ◌≤◌, true, false, ltb, ◌≢◌, ◌⊎◌, List, length, get_or, refl, ap, ◌∙◌, subst, inl, inr, arith}
+use Rattle.std.proofs.lemmas.Bool.{cases_Bool, cond-true, lt-ltb, le-ltb, cases_eq}
 use Rattle.format.specs.declared.things.Slot.{Slot}
-use Rattle.format.specs.Meaning.{shape, Thing, nothing, object, forwarded, padding, span}
+use Rattle.format.specs.Meaning.{Thing, nothing, object, forwarded, padding, span}
 use Rattle.format.specs.Laws.{Lawful}
 use Rattle.arena.specs.Boards.{bit}
 use Rattle.arena.specs.Buffers.{padded_part}
 use Rattle.trace.specs.declared.sweeping.Stand.{Stand}
-use Rattle.trace.specs.Traces.{kept, loose, stand_by, stood, walked, row_by, thing_swept, thing_end}
+use Rattle.trace.specs.Traces.{kept, loose, stood, walked, row_by, thing_swept, thing_end}
 use Rattle.trace.specs.Traces.{Row as SweepRow, row as sweep_row}
 use Rattle.trace.specs.Keeping.{Piece, Row, ends, piece}
 use Rattle.trace.proofs.Cells.{slots_of, layout_of, rd, Start}
@@ -21,10 +18,10 @@ use Rattle.trace.proofs.Looking.{seen_forwarded, seen_padding, seen_object}
 use Rattle.trace.proofs.Rows.{Sorted, sorted}
 
 pub object_piece : (x : Thing) (l : ℕ) (ss : List Slot) → x ≡ object l ss → Piece x
-object_piece x l ss e = subst Piece (sym e) tt
+object_piece x l ss e = rw e tt
 
 pub padding_piece : (x : Thing) (k : ℕ) → x ≡ padding k → Piece x
-padding_piece x k e = subst Piece (sym e) tt
+padding_piece x k e = rw e tt
 
 -- things of any kind without gaps
 pub record Link (S : Start) (x : Thing) : Type 0 where
@@ -62,7 +59,7 @@ pub base_link : (S : Start) (m : List ℕ) (e a q : ℕ) → Chain S m e a → B
 base_link S m e a q stop b = absurd (omega (arith, (base_inv S m e a q b).0))
 base_link S m e a q (link c n h r) b =
     elim (base_inv S m e a q b).1 [
-      | inl f ↦ subst (λ (x : ℕ). (a ≤ x) × (x + span S.meaning (rd S m x) ≤ e) × Link S (rd S m x)) (sym f) (omega arith, h, n)
+      | inl f ↦ rw f (omega arith, h, n)
       | inr g ↦ (let i = base_link S m e (a + span S.meaning (rd S m a)) q r g in (omega (arith, i.0), i.1, i.2))
     ]
 
@@ -77,8 +74,8 @@ module _ (S : Start) (m k : List ℕ) (e : ℕ) where
   chain_alike a (link c n h r) f =
       let low : a < e = omega (arith, n.some) in
       let g = f a (first a low) in
-      link a (record { some = subst (λ (x : ℕ). 1 ≤ x) (sym g.span) n.some; real = g.real }) (subst (λ (x : ℕ). a + x ≤ e) (sym g.span) h)
-      (subst (λ (x : ℕ). Chain S k e (a + x)) (sym g.span) (chain_alike (a + span S.meaning (rd S m a)) r (λ p b. f p (next a p low b))))
+      link a (record { some = rw g.span n.some; real = g.real }) (rw g.span h)
+      (rw g.span (chain_alike (a + span S.meaning (rd S m a)) r (λ p b. f p (next a p low b))))
 
   pub bases_alike : (a q : ℕ) → Chain S m e a → Alike a → (Base S m e a q → Base S k e a q) × (Base S k e a q → Base S m e a q)
   bases_alike a q stop f = (λ b. absurd (omega (arith, (base_inv S m e a q b).0)), λ b. absurd (omega (arith, (base_inv S k e a q b).0)))
@@ -87,12 +84,12 @@ module _ (S : Start) (m k : List ℕ) (e : ℕ) where
       let g = (f a (first a low)).span in
       let rec = bases_alike (a + span S.meaning (rd S m a)) q r (λ p b. f p (next a p low b)) in (
         λ b. elim (base_inv S m e a q b).1 [
-          | inl d ↦ subst (λ (x : ℕ). Base S k e a x) (sym d) (first a low)
-          | inr d ↦ next a q low (subst (λ (x : ℕ). Base S k e (a + x) q) (sym g) (rec.0 d))
+          | inl d ↦ rw d (first a low)
+          | inr d ↦ next a q low (rw g (rec.0 d))
         ],
         λ b. elim (base_inv S k e a q b).1 [
-          | inl d ↦ subst (λ (x : ℕ). Base S m e a x) (sym d) (first a low)
-          | inr d ↦ next a q low (rec.1 (subst (λ (x : ℕ). Base S k e (a + x) q) g d))
+          | inl d ↦ rw d (first a low)
+          | inr d ↦ next a q low (rec.1 (rw (← g) d))
         ],
       )
 
@@ -102,7 +99,7 @@ module _ (S : Start) (laws : Lawful S.meaning) (m k : List ℕ) (e z : ℕ) (sam
   alike a l c p b =
       let i = base_link S m e a p c b in
       let f = same p (omega (arith, i.0)) i.2 i.1 in
-      record { real = subst (λ (x : Thing). x ≢ nothing) (sym f) i.2.real; span = ap (span S.meaning) f }
+      record { real = rw f i.2.real; span = rw f refl }
 
   pub chain_after : (a : ℕ) → z ≤ a → Chain S m e a → Chain S k e a
   chain_after a l c = chain_alike S m k e a c (alike a l c)
@@ -111,7 +108,7 @@ module _ (S : Start) (laws : Lawful S.meaning) (m k : List ℕ) (e z : ℕ) (sam
   row_after a l ends = ends
   row_after a l (piece b p h r) =
       let f = same a l (piece_link S (rd S m a) (sorted S.meaning laws m a p)) h in
-      piece a (subst Piece (sym f) p) (subst (λ (x : Thing). a + span S.meaning x ≤ e) (sym f) h) (subst (λ (x : Thing). Row S.meaning k e (a + span S.meaning x)) (sym f) (row_after (a + span S.meaning (rd S m a)) (omega arith) r))
+      piece a (rw f p) (rw f h) (rw f (row_after (a + span S.meaning (rd S m a)) (omega arith) r))
 
   pub base_back : (a q : ℕ) → z ≤ a → Chain S m e a → Base S k e a q → Base S m e a q
   base_back a q l c = (bases_alike S m k e a q c (alike a l c)).1
@@ -138,45 +135,46 @@ module _ (S : Start) (laws : Lawful S.meaning) where
       subst (λ (x : ℕ). Padded S laws m (pad g x m) g (a - g)) z (pad_effect S laws m g (a - g) small (λ _. omega arith))
 
   not_padding : (x : Thing) (n : ℕ) → x ≡ padding n → is_object x ≡ true → ⊥
-  not_padding x n e h = both_ways (is_object x) (ap is_object e) h
+  not_padding x n e h = cc
+
+  gap_end : (k : List ℕ) (g a : ℕ) → g ≤ a → rd S k g ≡ padding (a - g) → g + span S.meaning (rd S k g) ≡ a
+  gap_end k g a l f = rw f (omega arith)
 
   -- before a gap of padding, a row
   gap_row : (k : List ℕ) (e g a : ℕ) → g ≤ a → a ≤ e → (g < a → rd S k g ≡ padding (a - g)) → Row S.meaning k e a → Row S.meaning k e g
   gap_row k e g a l h p r = elim (cases_eq g a) [
-    | inl f ↦ subst (Row S.meaning k e) (sym f) r
+    | inl f ↦ rw f r
     | inr n ↦ (let f = p (omega arith) in
-        let z : span S.meaning (rd S k g) ≡ a - g = ap (span S.meaning) f in
-        let y : g + span S.meaning (rd S k g) ≡ a = omega arith in
-        piece g (padding_piece (rd S k g) (a - g) f) (omega arith) (subst (Row S.meaning k e) (sym y) r))
+        let y = gap_end k g a l f in
+        piece g (padding_piece (rd S k g) (a - g) f) (omega arith) (rw y r))
   ]
 
   gap_base : (k : List ℕ) (e g a q : ℕ) → g ≤ a → a ≤ e → (g < a → rd S k g ≡ padding (a - g)) → Base S k e a q → Base S k e g q
   gap_base k e g a q l h p b = elim (cases_eq g a) [
-    | inl f ↦ subst (λ (x : ℕ). Base S k e x q) (sym f) b
-    | inr n ↦ (let z : span S.meaning (rd S k g) ≡ a - g = ap (span S.meaning) (p (omega arith)) in
-        let y : g + span S.meaning (rd S k g) ≡ a = omega arith in
-        next g q (omega (arith, (base_inv S k e a q b).0)) (subst (λ (x : ℕ). Base S k e x q) (sym y) b))
+    | inl f ↦ rw f b
+    | inr n ↦ (let y = gap_end k g a l (p (omega arith)) in
+        next g q (omega (arith, (base_inv S k e a q b).0)) (rw y b))
   ]
 
   gap_old : (k : List ℕ) (e g a q : ℕ) → g ≤ a → a ≤ e → (g < a → rd S k g ≡ padding (a - g)) → Base S k e g q → is_object (rd S k q) ≡ true → Base S k e a q
   gap_old k e g a q l h p b o = elim (cases_eq g a) [
-    | inl f ↦ subst (λ (x : ℕ). Base S k e x q) f b
+    | inl f ↦ rw (← f) b
     | inr n ↦ (let f = p (omega arith) in
-        let z : span S.meaning (rd S k g) ≡ a - g = ap (span S.meaning) f in
-        let y : g + span S.meaning (rd S k g) ≡ a = omega arith in
+        let y = gap_end k g a l f in
         elim (base_inv S k e g q b).1 [
-          | inl x ↦ absurd (not_padding (rd S k g) (a - g) f (subst (λ (v : ℕ). is_object (rd S k v) ≡ true) x o))
-          | inr c ↦ subst (λ (x : ℕ). Base S k e x q) y c
+          | inl x ↦ absurd (not_padding (rd S k g) (a - g) f (rw (← x) o))
+          | inr c ↦ rw (← y) c
         ])
   ]
 
   swept_end : (ms : List ℕ) (e g : ℕ) (m : List ℕ) → g ≤ e → e - g ≤ 256 → e ≤ length m → Swept ms e g e m (pad g e m)
   swept_end ms e g m l small f =
-      let p : g < e → rd S (pad g e m) g ≡ padding (e - g) = λ h. (pad_to g e m l small f).reads (omega arith) in
+      let pd = pad_to g e m l small f in
+      let p : g < e → rd S (pad g e m) g ≡ padding (e - g) = λ h. pd.reads (omega arith) in
       record {
-        long = (pad_to g e m l small f).long;
-        outside = λ q j r h. (pad_to g e m l small f).others q j r (λ _. elim h [ inl x ↦ inl x | inr x ↦ inr (omega arith) ]);
-        words = λ w h. (pad_to g e m l small f).words w (λ _. elim h [ inl x ↦ inl x | inr x ↦ inr (omega arith) ]);
+        long = pd.long;
+        outside = λ q j r h. pd.others q j r (λ _. grind arith);
+        words = λ w h. pd.words w (λ _. grind arith);
         kept = λ q b k. absurd (omega (arith, (base_inv S m e e q b).0));
         row = gap_row (pad g e m) e g e l (omega arith) p ends;
         old = λ q b o. absurd (omega (arith, (base_inv S (pad g e m) e e q (gap_old (pad g e m) e g e q l (omega arith) p b o)).0));
@@ -190,9 +188,9 @@ module _ (S : Start) (laws : Lawful S.meaning) where
     outside = s.outside;
     row = s.row;
     words = s.words;
-    kept = λ q b h. elim (base_inv S m e a q b).1 [ inl f ↦ absurd (both_ways (bit ms a) u (subst (λ (x : ℕ). bit ms x ≡ true) f h)) | inr c ↦ s.kept q c h ];
+    kept = λ q b h. elim (base_inv S m e a q b).1 [ inl f ↦ (cc) | inr c ↦ s.kept q c h ];
     old = λ q b o. let x = s.old q b o in (x.0, next a q l x.1);
-    new = λ q b h. elim (base_inv S m e a q b).1 [ inl f ↦ absurd (both_ways (bit ms a) u (subst (λ (x : ℕ). bit ms x ≡ true) f h)) | inr c ↦ s.new q c h ];
+    new = λ q b h. elim (base_inv S m e a q b).1 [ inl f ↦ (cc) | inr c ↦ s.new q c h ];
   }
 
   -- what is marked ends it
@@ -200,25 +198,25 @@ module _ (S : Start) (laws : Lawful S.meaning) where
       → rd S m a ≡ object (layout_of (rd S m a)) (slots_of (rd S m a)) → Link S (rd S m a) → a + span S.meaning (rd S m a) ≤ e → Chain S m e (a + span S.meaning (rd S m a))
       → Swept ms e (a + span S.meaning (rd S m a)) (a + span S.meaning (rd S m a)) (pad g a m) k → Swept ms e g a m k
   swept_keep ms e g a m k l small low f mk ob lk hi ch s = record {
-    long = s.long ∙ (pad_to g a m l small (omega arith)).long;
+    long = s.long ∙ pd.long;
     outside = λ q j r h.
-        let x = (pad_to g a m l small (omega arith)).others q j r (λ _. elim h [ inl y ↦ inl y | inr y ↦ inr (omega arith) ]) in
-        s.outside q j (subst (λ (z : Thing). Real S.meaning z j) (sym x) r) (elim h [ inl y ↦ inl (omega arith) | inr y ↦ inr y ]) ∙ x;
-    words = λ w h. s.words w (elim h [ inl y ↦ inl (omega arith) | inr y ↦ inr y ]) ∙ (pad_to g a m l small (omega arith)).words w (λ _. elim h [ inl y ↦ inl y | inr y ↦ inr (omega arith) ]);
+        let x = pd.others q j r (λ _. grind arith) in
+        s.outside q j (rw x r) (grind arith) ∙ x;
+    words = λ w h. s.words w (grind arith) ∙ pd.words w (λ _. grind arith);
     kept = λ q b h. elim (base_inv S m e a q b).1 [
-      | inl y ↦ subst (λ (x : ℕ). rd S k x ≡ rd S m x) (sym y) at_a
+      | inl y ↦ rw y at_a
       | inr c ↦ s.kept q (base_on S laws m m1 e a' after a' q (omega arith) ch c) h ∙ (let i = base_link S m e a' q ch c in after q i.0 i.2 i.1)
     ];
     row = gap_row k e g a l (omega arith) at_g (piece a (object_piece (rd S k a) (layout_of (rd S m a)) (slots_of (rd S m a)) (at_a ∙ ob))
-        (subst (λ (z : Thing). a + span S.meaning z ≤ e) (sym at_a) hi) (subst (λ (z : Thing). Row S.meaning k e (a + span S.meaning z)) (sym at_a) s.row));
+        (rw at_a hi) (rw at_a s.row));
     old = λ q b o. let c = gap_old k e g a q l (omega arith) at_g b o in elim (base_inv S k e a q c).1 [
-      | inl y ↦ (subst (λ (x : ℕ). bit ms x ≡ true) (sym y) mk, subst (λ (x : ℕ). Base S m e a x) (sym y) (first a low))
-      | inr d ↦ (let x = s.old q (subst (λ (z : Thing). Base S k e (a + span S.meaning z) q) at_a d) o in
+      | inl y ↦ (rw y mk, rw y (first a low))
+      | inr d ↦ (let x = s.old q (rw (← at_a) d) o in
           (x.0, next a q low (base_back S laws m m1 e a' after a' q (omega arith) ch x.1)))
     ];
     new = λ q b h. gap_base k e g a q l (omega arith) at_g (elim (base_inv S m e a q b).1 [
-      | inl y ↦ subst (λ (x : ℕ). Base S k e a x) (sym y) (first a low)
-      | inr c ↦ next a q low (subst (λ (z : Thing). Base S k e (a + span S.meaning z) q) (sym at_a) (s.new q (base_on S laws m m1 e a' after a' q (omega arith) ch c) h))
+      | inl y ↦ rw y (first a low)
+      | inr c ↦ next a q low (rw at_a (s.new q (base_on S laws m m1 e a' after a' q (omega arith) ch c) h))
     ]);
   }
     where
@@ -228,49 +226,39 @@ module _ (S : Start) (laws : Lawful S.meaning) where
       m1 : List ℕ
       m1 = pad g a m
 
+      pd : Padded S laws m m1 g (a - g)
+      pd = pad_to g a m l small (omega arith)
+
       after : (q : ℕ) → a' ≤ q → Link S (rd S m q) → q + span S.meaning (rd S m q) ≤ e → rd S m1 q ≡ rd S m q
-      after q h n y = (pad_to g a m l small (omega arith)).others q (span S.meaning (rd S m q)) (link_real S (rd S m q) n) (λ _. inr (omega arith))
+      after q h n y = pd.others q (span S.meaning (rd S m q)) (link_real S (rd S m q) n) (λ _. inr (omega arith))
 
       in_m1 : rd S m1 a ≡ rd S m a
-      in_m1 = (pad_to g a m l small (omega arith)).others a (span S.meaning (rd S m a)) (link_real S (rd S m a) lk) (λ _. inr (omega arith))
+      in_m1 = pd.others a (span S.meaning (rd S m a)) (link_real S (rd S m a) lk) (λ _. inr (omega arith))
 
       at_a : rd S k a ≡ rd S m a
-      at_a = s.outside a (span S.meaning (rd S m a)) (subst (λ (z : Thing). Real S.meaning z (span S.meaning (rd S m a))) (sym in_m1) (link_real S (rd S m a) lk)) (inl (omega arith)) ∙ in_m1
+      at_a = s.outside a (span S.meaning (rd S m a)) (rw in_m1 (link_real S (rd S m a) lk)) (inl (omega arith)) ∙ in_m1
 
       at_g : g < a → rd S k g ≡ padding (a - g)
       at_g h =
-          let x = (pad_to g a m l small (omega arith)).reads (omega arith) in
+          let x = pd.reads (omega arith) in
           s.outside g (a - g) (real_padding S.meaning (rd S m1 g) (a - g) x) (inl (omega arith)) ∙ x
 
   -- ---- the walk
-
-  loose_by : (ms : List ℕ) (a e n : ℕ) (h : Head) → bit ms a ≡ false → ((s : _) × ((h ≡ Object s) × (S.meaning.size s ≡ n))) ⊎ ((((to : ℕ) × (h ≡ Forwarded n to))) ⊎ (h ≡ Padding n))
-      → stand_by ms a e S.meaning h ≡ loose (a + n)
-  loose_by ms a e n h u (inl x) = ap (stand_by ms a e S.meaning) x.1.0 ∙ ap (λ (b : Bool). record { end = a + S.meaning.size x.0; is_kept = b }) u ∙ ap (λ (j : ℕ). loose (a + j)) x.1.1
-  loose_by ms a e n h u (inr (inl x)) = ap (stand_by ms a e S.meaning) x.1
-  loose_by ms a e n h u (inr (inr x)) = ap (stand_by ms a e S.meaning) x
 
   stood_loose : (ms : List ℕ) (m : List ℕ) (e a : ℕ) → Link S (rd S m a) → a + span S.meaning (rd S m a) ≤ e → bit ms a ≡ false → stood S.meaning m ms a e ≡ loose (a + span S.meaning (rd S m a))
   stood_loose ms m e a l h u = go (rd S m a) refl
     where
       go : (x : Thing) → rd S m a ≡ x → stood S.meaning m ms a e ≡ loose (a + span S.meaning (rd S m a))
       go nothing f = absurd (l.real f)
-      go (object ly ss) f =
-          let z = ap (span S.meaning) f in
-          loose_by ms a e (span S.meaning (rd S m a)) _ u (inl (shape ly (length ss), (seen_object S.meaning laws m a ly ss f e (subst (λ (n : ℕ). a + n ≤ e) z h), sym z)))
-      go (forwarded k to) f =
-          let z = ap (span S.meaning) f in
-          loose_by ms a e (span S.meaning (rd S m a)) _ u (inr (inl (to, seen_forwarded S.meaning laws m a e k (subst (λ (n : ℕ). a + n ≤ e) z h) to f ∙ ap (λ (n : ℕ). Forwarded n to) (sym z))))
-      go (padding k) f =
-          let z = ap (span S.meaning) f in
-          loose_by ms a e (span S.meaning (rd S m a)) _ u (inr (inr (seen_padding S.meaning laws m a e k (subst (λ (n : ℕ). a + n ≤ e) z h) f ∙ ap Padding (sym z))))
+      go (object ly ss) f = rw (seen_object S.meaning laws m a ly ss f e (rw f at h), u, f) refl
+      go (forwarded k to) f = rw (seen_forwarded S.meaning laws m a e k (rw f at h) to f, f) refl
+      go (padding k) f = rw (seen_padding S.meaning laws m a e k (rw f at h) f, f) refl
 
   stood_kept : (ms : List ℕ) (m : List ℕ) (e a : ℕ) → rd S m a ≡ object (layout_of (rd S m a)) (slots_of (rd S m a)) → a + span S.meaning (rd S m a) ≤ e → bit ms a ≡ true
       → stood S.meaning m ms a e ≡ kept (a + span S.meaning (rd S m a))
   stood_kept ms m e a ob h u =
       let z = ap (span S.meaning) ob in
-      ap (stand_by ms a e S.meaning) (seen_object S.meaning laws m a (layout_of (rd S m a)) (slots_of (rd S m a)) ob e (subst (λ (n : ℕ). a + n ≤ e) z h))
-      ∙ ap (λ (b : Bool). record { end = a + S.meaning.size (shape (layout_of (rd S m a)) (length (slots_of (rd S m a)))); is_kept = b }) u ∙ ap (λ (n : ℕ). kept (a + n)) (sym z)
+      rw (seen_object S.meaning laws m a (layout_of (rd S m a)) (slots_of (rd S m a)) ob e (rw (← z) h), u, z) refl
 
   abbrev walk : List ℕ → ℕ → ℕ → SweepRow → ℕ → SweepRow
   walk ms e k r a = walked (thing_swept S.meaning ms e) (thing_end S.meaning ms e) e k r a
@@ -298,8 +286,7 @@ module _ (S : Start) (laws : Lawful S.meaning) where
       → ((q : ℕ) → Base S m e a q → bit ms q ≡ true → rd S m q ≡ object (layout_of (rd S m q)) (slots_of (rd S m q)))
       → Walked ms e g a m (walk ms e k (sweep_row m g) a)
   sweep_ok ms e zero g a m fuel l small f stop ob = walk_end ms e g m l small f
-  sweep_ok ms e (suc k) g a m fuel l small f stop ob =
-      subst (Walked ms e g e m) (sym (cond-false (ltb e e) _ (sweep_row m g) (le-ltb e e (omega arith)))) (walk_end ms e g m l small f)
+  sweep_ok ms e (suc k) g a m fuel l small f stop ob = rw (le-ltb e e (omega arith)) (walk_end ms e g m l small f)
   sweep_ok ms e zero g a m fuel l small f (link b n h r) ob = absurd (omega (arith, n.some))
   sweep_ok ms e (suc k) g a m fuel l small f (link b n h r) ob =
       go (λ x. sweep_ok ms e k g (a + span S.meaning (rd S m a)) m (omega (arith, n.some)) (omega arith) small f r (λ q y. ob q (next a q low y)))
@@ -308,7 +295,7 @@ module _ (S : Start) (laws : Lawful S.meaning) where
       (λ q y z.
       let c = base_back S laws m (pad g a m) e (a + span S.meaning (rd S m a)) after (a + span S.meaning (rd S m a)) q (omega arith) r y in
       let i = base_link S m e (a + span S.meaning (rd S m a)) q r c in
-      subst (λ (x : Thing). x ≡ object (layout_of x) (slots_of x)) (sym (after q i.0 i.2 i.1)) (ob q (next a q low c) z)))
+      rw (after q i.0 i.2 i.1) (ob q (next a q low c) z)))
       (cases_Bool (bit ms a))
     where
       low : a < e
@@ -324,7 +311,7 @@ module _ (S : Start) (laws : Lawful S.meaning) where
           → (bit ms a ≡ true) ⊎ (bit ms a ≡ false) → Walked ms e g a m (walk ms e (suc k) (sweep_row m g) a)
       go skip keep (inl mk) =
           let s = keep tt in
-          subst (Walked ms e g a m) (sym (walk_step ms e k g a m (kept a') low (stood_kept ms m e a (ob a (first a low) mk) h mk)))
+          rw (walk_step ms e k g a m (kept a') low (stood_kept ms m e a (ob a (first a low) mk) h mk))
           (record {
             swept = swept_keep ms e g a m (pad (walk ms e k (sweep_row (pad g a m) a') a').run e (walk ms e k (sweep_row (pad g a m) a') a').words) l (omega arith) low f mk (ob a (first a low) mk) n h r s.swept;
             low = omega (arith, s.low);
@@ -333,13 +320,13 @@ module _ (S : Start) (laws : Lawful S.meaning) where
           })
       go skip keep (inr un) =
           let s = skip tt in
-          subst (Walked ms e g a m) (sym (walk_step ms e k g a m (loose a') low (stood_loose ms m e a n h un)))
+          rw (walk_step ms e k g a m (loose a') low (stood_loose ms m e a n h un))
           (record {
             swept = swept_skip ms e g a m (pad (walk ms e k (sweep_row m g) a').run e (walk ms e k (sweep_row m g) a').words) low un s.swept;
             low = s.low;
             high = s.high;
             which = elim s.which [
-              | inl x ↦ inl (x.0, λ q b. elim (base_inv S m e a q b).1 [ inl y ↦ subst (λ (v : ℕ). bit ms v ≡ false) (sym y) un | inr c ↦ x.1 q c ])
+              | inl x ↦ inl (x.0, λ q b. elim (base_inv S m e a q b).1 [ inl y ↦ rw y un | inr c ↦ x.1 q c ])
               | inr x ↦ inr (omega (arith, n.some))
             ];
           })

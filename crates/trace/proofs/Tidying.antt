@@ -1,18 +1,18 @@
 -- The sweep of all segments.
-use Rattle.std.proofs.Common.{◌≡◌, ℕ, zero, suc, ◌+◌, ◌-◌, ◌*◌, ◌/◌, ◌<◌, ◌≤◌, Bool, true, false, eqb, ◌≢◌, ◌⊎◌, List, length, get_or, drop, set, replicate, sym, refl, ap, ◌∙◌, subst, inl, inr, arith, length-set, eq-eqb, ne_eqb, None}
+use Rattle.std.proofs.Common.{◌≡◌, ℕ, zero, suc, ◌+◌, ◌-◌, ◌*◌, ◌/◌, ◌<◌, ◌≤◌, Bool, true, false, eqb, ◌≢◌, ◌⊎◌, List, length, get_or, drop, set, replicate, sym, refl, ap, ◌∙◌, inl, inr, arith, length-set, eq-eqb, ne_eqb, None}
 use native.Mathlib.Decide.{dec_lt}
 use borrow.Rule.Slice.PartMut.{put_mid}
-use Rattle.std.proofs.lemmas.Bool.{cases_Bool, cond-true, cond-false, le-leb, cases_eq}
+use Rattle.std.proofs.lemmas.Bool.{cases_Bool, le-leb, cases_eq}
 use Rattle.std.proofs.lemmas.List.{length-replicate, get_or-replicate, get_or-drop, get_or_append_left, get_or-set_same, get_or-set_other}
 use Rattle.std.proofs.lemmas.Slice.{drop-put_mid}
-use Rattle.format.specs.Meaning.{Meaning, Thing, object, reads, span}
+use Rattle.format.specs.Meaning.{Meaning, object, span}
 use Rattle.format.specs.Laws.{Lawful}
 use Rattle.format.proofs.Memory.{length_put, drop_put, get_or_put_outside, part_before}
 use Rattle.arena.specs.declared.segments.Segments.{Segments}
 use Rattle.arena.specs.Boards.{bit}
-use Rattle.arena.specs.Segments.{Owner, owner_of, in_arena, freed, freed_words}
+use Rattle.arena.specs.Segments.{Owner, owner_of, in_arena}
 use Rattle.trace.specs.declared.state.Plan.{Plan}
-use Rattle.trace.specs.Traces.{swept_row, last_words, last_segments, swept_words, swept_segments}
+use Rattle.trace.specs.Traces.{swept_row, swept_words, swept_segments}
 use Rattle.trace.specs.Traces.{Row as SweepRow}
 use Rattle.trace.specs.Collections.{Ground, ground, segment_swept, segments_swept}
 use Rattle.trace.specs.Keeping.{Row}
@@ -44,7 +44,7 @@ module _ (S : Start) (laws : Lawful S.meaning) (ms : List ℕ) where
     wiped : c ≡ true → p ≡ None → ((q : ℕ) → Base S m (j * 256 + 256) (j * 256) q → bit ms q ≡ false) → ((w : ℕ) → w / 256 ≡ j → get_or k w 0 ≡ 0) → Outcome c j m k o p
 
   alike_trans : (j : ℕ) (m k l : List ℕ) → Alike j m k → Alike j k l → Alike j m l
-  alike_trans j m k l f g q a n h = let e = f q a n h in g q a (subst (Link S) (sym e) n) (subst (λ (x : Thing). q + span S.meaning x ≤ j * 256 + 256) (sym e) h) ∙ e
+  alike_trans j m k l f g q a n h = let e = f q a n h in g q a (rw e n) (rw e h) ∙ e
 
   tidy_on : (j : ℕ) (m k l : List ℕ) → Tidy j m k → Alike j k l → Tidy j m l
   tidy_on j m k l t f =
@@ -55,7 +55,7 @@ module _ (S : Start) (laws : Lawful S.meaning) (ms : List ℕ) where
         old = λ q b o.
             let c = base_back S laws k l (j * 256 + 256) (j * 256) f (j * 256) q (omega arith) ch b in
             let i = base_link S k (j * 256 + 256) (j * 256) q ch c in
-            t.old q c (subst (λ (x : Thing). is_object x ≡ true) (f q i.0 i.2 i.1) o);
+            t.old q c (rw (← f q i.0 i.2 i.1) o);
         new = λ q b h. base_on S laws k l (j * 256 + 256) (j * 256) f (j * 256) q (omega arith) ch (t.new q b h);
       }
 
@@ -85,11 +85,11 @@ module _ (S : Start) (laws : Lawful S.meaning) (ms : List ℕ) where
     wipe_alike : (j : ℕ) → j ≢ s → Alike j m wiped_words
     wipe_alike j ne q low n high = elim (dec_lt j s) [
       | yes l ↦ laws.own (drop q m) (drop q wiped_words) n.real (part_before (s * 256) 256 m (replicate 256 0) inside zeros q (span M (rd S m q)) (omega arith))
-      | no l ↦ ap (reads M) (drop-put_mid (s * 256) 256 m (replicate 256 0) q (omega arith) (omega arith) zeros)
+      | no l ↦ rw (drop-put_mid (s * 256) 256 m (replicate 256 0) q (omega arith) (omega arith) zeros) refl
     ]
 
     wipe_words : (j : ℕ) → j ≢ s → SameWords j m wiped_words
-    wipe_words j ne w z = get_or_put_outside (s * 256) 256 m (replicate 256 0) inside zeros w (elim (dec_lt j s) [ yes l ↦ inl (omega arith) | no l ↦ inr (omega arith) ])
+    wipe_words j ne w z = get_or_put_outside (s * 256) 256 m (replicate 256 0) inside zeros w (grind arith)
 
     wipe_zero : (w : ℕ) → w / 256 ≡ s → get_or wiped_words w 0 ≡ 0
     wipe_zero w z =
@@ -120,7 +120,7 @@ module _ (S : Start) (laws : Lawful S.meaning) (ms : List ℕ) where
     long = l ∙ a.long;
     many = n ∙ a.many;
     past = λ j k. elim (cases_eq j s) [
-      | inl e ↦ subst (λ (j : ℕ). Outcome (get_or cs j false) j m y.words (owner_of g j) (owner_of y.segments j)) (sym e) o
+      | inl e ↦ rw e o
       | inr ne ↦ outcome_on (get_or cs j false) j m x.words y.words (owner_of g j) (owner_of x.segments j) (owner_of y.segments j) (a.past j (omega arith)) (f j ne) (v j ne) (h j ne)
     ];
     coming = λ j k. let c = a.coming j (omega arith) in (alike_trans j m x.words y.words c.0 (f j (omega arith)), h j (omega arith) ∙ c.1, λ w z. v j (omega arith) w z ∙ c.2 w z);
@@ -164,22 +164,20 @@ module _ (S : Start) (laws : Lawful S.meaning) (ms : List ℕ) where
     swept_cases = elim walked_row.which [
       | inr l ↦ (let e : eqb last.run (s * 256) ≡ false = ne_eqb last.run (s * 256) (λ z. omega arith) in
           inl (record {
-            words = subst (Swept S laws ms (end_of_segment s) (s * 256) (s * 256) k) (sym (cond-true (in_arena (length k) s) (last_words M s last) k in_it ∙ cond-false (eqb last.run (s * 256)) (freed_words last.words s) _ e)) walked_row.swept;
-            segments = cond-true (in_arena (length k) s) (last_segments h s last) h in_it ∙ cond-false (eqb last.run (s * 256)) (freed h (length last.words) s) h e;
+            words = rw (in_it, e) walked_row.swept;
+            segments = rw (in_it, e) refl;
           }))
       | inl x ↦ (let e : eqb last.run (s * 256) ≡ true = eq-eqb last.run (s * 256) x.0.1 in
           inr (record {
-            words = cond-true (in_arena (length k) s) (last_words M s last) k in_it ∙ cond-true (eqb last.run (s * 256)) (freed_words last.words s) _ e
-                ∙ ap (λ (z : List ℕ). freed_words z s) x.0.0 ∙ cond-true (in_arena (length k) s) (put_mid (s * 256) 256 k (replicate 256 0)) k in_it;
-            segments = cond-true (in_arena (length k) s) (last_segments h s last) h in_it ∙ cond-true (eqb last.run (s * 256)) (freed h (length last.words) s) h e
-                ∙ ap (λ (z : List ℕ). freed h (length z) s) x.0.0 ∙ cond-true (in_arena (length k) s) (record { owners = set h.owners s None }) h in_it;
+            words = rw (in_it, e, x.0.0, in_it) refl;
+            segments = rw (in_it, e, x.0.0, in_it) refl;
             unmarked = x.1;
           }))
     ]
 
   module _ (m : List ℕ) (g : Segments) (y : Plan) (few : length g.owners ≡ 256) (fit : (j : ℕ) → get_or y.condemned j false ≡ true → Fit m j) where
     swept_alike : (s j : ℕ) (k l : List ℕ) → j ≢ s → Swept S laws ms (s * 256 + 256) (s * 256) (s * 256) k l → Alike j k l
-    swept_alike s j k l ne sw q low n high = sw.outside q (span M (rd S k q)) (record { real = n.real; span = refl }) (elim (dec_lt j s) [ yes l ↦ inl (omega arith) | no l ↦ inr (omega arith) ])
+    swept_alike s j k l ne sw q low n high = sw.outside q (span M (rd S k q)) (record { real = n.real; span = refl }) (grind arith)
 
     condemned_ok : (s : ℕ) → s < 256 → (x : Ground) → After m g y.condemned s x → get_or y.condemned s false ≡ true
         → After m g y.condemned (suc s) (ground (swept_segments M x.segments x.words ms s) (swept_words M x.words ms s))
@@ -191,16 +189,16 @@ module _ (S : Start) (laws : Lawful S.meaning) (ms : List ℕ) where
         let ob : (q : ℕ) → Base S x.words (s * 256 + 256) (s * 256) q → bit ms q ≡ true → rd S x.words q ≡ object (layout_of (rd S x.words q)) (slots_of (rd S x.words q)) =
         λ q b h. let c = base_back S laws m x.words (s * 256 + 256) (s * 256) al (s * 256) q (omega arith) f.chain b in
         let i = base_link S m (s * 256 + 256) (s * 256) q f.chain c in
-        subst (λ (z : Thing). z ≡ object (layout_of z) (slots_of z)) (sym (al q i.0 i.2 i.1)) (f.marked q c h) in
+        rw (al q i.0 i.2 i.1) (f.marked q c h) in
         elim (swept_cases s x.words x.segments ins ch ob) [
           | inl kp ↦ (let sw = kp.words in
               let k = swept_words M x.words ms s in
-              step_past m g y.condemned s x (ground (swept_segments M x.segments x.words ms s) k) a sw.long (ap (λ (z : Segments). length z.owners) kp.segments)
-              (λ j ne. swept_alike s j x.words k ne sw) (λ j ne w z. sw.words w (elim (dec_lt j s) [ yes l ↦ inl (omega arith) | no l ↦ inr (omega arith) ]))
+              step_past m g y.condemned s x (ground (swept_segments M x.segments x.words ms s) k) a sw.long (rw kp.segments refl)
+              (λ j ne. swept_alike s j x.words k ne sw) (λ j ne w z. sw.words w (grind arith))
               (λ j ne. ap (λ (z : Segments). owner_of z j) kp.segments)
               (tidy ec (ap (λ (z : Segments). owner_of z s) kp.segments ∙ (a.coming s (omega arith)).1)
               (tidy_from s m x.words k f.chain al (record { kept = sw.kept; row = sw.row; old = sw.old; new = sw.new }))))
-          | inr fr ↦ subst (After m g y.condemned (suc s)) (sym (ap (λ (h : Segments). ground h (swept_words M x.words ms s)) fr.segments ∙ ap (ground (record { owners = set x.segments.owners s None })) fr.words))
+          | inr fr ↦ rw (fr.segments, fr.words)
               (step_past m g y.condemned s x (ground (record { owners = set x.segments.owners s None }) (wiped_words s x.words ins)) a
               (length_put (s * 256) 256 x.words (replicate 256 0) ins (length-replicate {A = ℕ} 256 0)) (length-set x.segments.owners s None)
               (λ j ne. wipe_alike s x.words ins j ne) (λ j ne. wipe_words s x.words ins j ne) (λ j ne. get_or-set_other x.segments.owners s j None None ne)
@@ -211,9 +209,9 @@ module _ (S : Start) (laws : Lawful S.meaning) (ms : List ℕ) where
 
     sweep_one_ok : (s : ℕ) → s < 256 → (x : Ground) → After m g y.condemned s x → After m g y.condemned (suc s) (segment_swept M y ms x s)
     sweep_one_ok s small x a = elim (cases_Bool (get_or y.condemned s false)) [
-      | inr ec ↦ subst (After m g y.condemned (suc s)) (sym (cond-false (get_or y.condemned s false) _ x ec))
+      | inr ec ↦ rw ec
           (step_past m g y.condemned s x x a refl refl (λ j ne q l n h. refl) (λ j ne w z. refl) (λ j ne. refl) (calm ec (a.coming s (omega arith)).1 (a.coming s (omega arith)).0 (a.coming s (omega arith)).2))
-      | inl ec ↦ subst (After m g y.condemned (suc s)) (sym (cond-true (get_or y.condemned s false) _ x ec)) (condemned_ok s small x a ec)
+      | inl ec ↦ rw ec (condemned_ok s small x a ec)
     ]
 
     pub sweep_all_ok : (k : ℕ) → k ≤ 256 → After m g y.condemned k (segments_swept M y ms (ground g m) k)

@@ -1,5 +1,5 @@
 -- Walks over the things of a row.
-use Rattle.std.proofs.Common.{◌≡◌, ℕ, zero, suc, ◌+◌, ◌-◌, ◌*◌, ◌<◌, ◌≤◌, cond, eqb, ltb, ◌⊎◌, List, length, drop, sym, refl, ap, ◌∙◌, inl, inr, arith}
+use Rattle.std.proofs.Common.{◌≡◌, ℕ, zero, suc, ◌+◌, ◌-◌, ◌*◌, ◌<◌, ◌≤◌, cond, ltb, ◌⊎◌, List, length, drop, sym, refl, ap, ◌∙◌, inl, inr, arith}
 use Rattle.std.proofs.lemmas.Bool.{cases_lt, cond-true, cond-false, lt-ltb, le-ltb, le-leb, eq-eqb}
 use Rattle.std.proofs.lemmas.List.{length-take}
 use Rattle.format.specs.declared.things.Head.{Head}
@@ -8,16 +8,16 @@ use Rattle.format.specs.Meaning.{Meaning, extent, seen}
 use Rattle.format.specs.Laws.{part}
 use Rattle.format.proofs.Heads.{range_extent, seen_cases}
 use Rattle.arena.specs.declared.segments.Segments.{Segments}
-use Rattle.arena.specs.Segments.{in_arena, freed, freed_words}
+use Rattle.arena.specs.Segments.{freed, freed_words}
 use Rattle.trace.specs.declared.sweeping.Stand.{Stand}
-use Rattle.trace.specs.Traces.{stand_by, stood, walked, Row, row, row_by, thing_swept, thing_end, swept_row, last_words, last_segments, swept_words, swept_segments}
+use Rattle.trace.specs.Traces.{stand_by, stood, walked, Row, row, row_by, thing_swept, thing_end, swept_row, swept_words, swept_segments}
 
 module _ {S : Type 0} (f : S → ℕ → S) (onto : S → ℕ → ℕ) (limit : ℕ) (ahead : (s : S) (at : ℕ) → at < limit → at < onto s at) where
   -- more turns than there are words left change nothing
   enough : (k j : ℕ) (s : S) (at : ℕ) → limit - at ≤ k → limit - at ≤ j → walked f onto limit k s at ≡ walked f onto limit j s at
   enough zero zero s at p q = refl
   enough zero (suc j) s at p q = sym (cond-false _ _ _ (le-ltb at limit (omega arith)))
-  enough (suc k) zero s at p q = cond-false _ _ _ (le-ltb at limit (omega arith))
+  enough (suc k) zero s at p q = rw (le-ltb at limit (omega arith)) refl
   enough (suc k) (suc j) s at p q =
       elim (cases_lt at limit) [
         | inl l ↦
@@ -38,11 +38,11 @@ module _ {S : Type 0} (f : S → ℕ → S) (onto : S → ℕ → ℕ) (limit : 
 by_ends : (m : Meaning) (ms : List ℕ) (at limit : ℕ) (h : Head) → at < limit → (h ≡ Nothing) ⊎ ((1 ≤ extent m h) × (at + extent m h ≤ limit))
     → (at < (stand_by ms at limit m h).end) × ((stand_by ms at limit m h).end ≤ limit)
 by_ends m ms at limit Nothing l x = (l, omega arith)
-by_ends m ms at limit (Object s) l (inl e) = absurd (let z : ◌≡◌ {A = ℕ} 0 1 = cc in omega arith)
+by_ends m ms at limit (Object s) l (inl e) = cc
 by_ends m ms at limit (Object s) l (inr r) = (omega (arith, r.0), r.1)
-by_ends m ms at limit (Forwarded k to) l (inl e) = absurd (let z : ◌≡◌ {A = ℕ} 0 1 = cc in omega arith)
+by_ends m ms at limit (Forwarded k to) l (inl e) = cc
 by_ends m ms at limit (Forwarded k to) l (inr r) = (omega (arith, r.0), r.1)
-by_ends m ms at limit (Padding k) l (inl e) = absurd (let z : ◌≡◌ {A = ℕ} 0 1 = cc in omega arith)
+by_ends m ms at limit (Padding k) l (inl e) = cc
 by_ends m ms at limit (Padding k) l (inr r) = (omega (arith, r.0), r.1)
 
 pub stood_ends : (m : Meaning) (ws ms : List ℕ) (at limit : ℕ) → at < limit
@@ -68,6 +68,6 @@ pub ended_free : (m : Meaning) (g : Segments) (ws ms : List ℕ) (s : ℕ) (r : 
 ended_free m g ws ms s r e l h =
     let i = le-leb (s * 256 + 256) (length ws) l in
     let q = eq-eqb r.run (s * 256) h in (
-      sym (cond-true (in_arena (length ws) s) (last_segments g s (swept_row m ws ms (s * 256) (s * 256 + 256))) g i ∙ ap (last_segments g s) (sym e) ∙ cond-true (eqb r.run (s * 256)) (freed g (length r.words) s) g q),
-      sym (cond-true (in_arena (length ws) s) (last_words m s (swept_row m ws ms (s * 256) (s * 256 + 256))) ws i ∙ ap (last_words m s) (sym e) ∙ cond-true (eqb r.run (s * 256)) (freed_words r.words s) _ q),
+      rw (i, ← e, q) refl,
+      rw (i, ← e, q) refl,
     )

@@ -1,6 +1,6 @@
 -- The steps of a collection, by the names of their definitions.
-use Rattle.std.proofs.Common.{◌≡◌, ℕ, zero, suc, ◌-◌, ◌*◌, ◌/◌, ◌<◌, ◌≤◌, true, false, ◌&&◌, leb, List, length, get_or, drop, refl, ap, ◌∙◌, subst, inl, inr, arith}
-use Rattle.std.proofs.lemmas.Bool.{cases_Bool, cases_eq, cond-true, cond-false, leb-true, and_parts, and_from}
+use Rattle.std.proofs.Common.{◌≡◌, ℕ, zero, suc, ◌-◌, ◌*◌, ◌/◌, ◌<◌, ◌≤◌, true, false, ◌&&◌, leb, List, length, get_or, drop, refl, ap, ◌∙◌, inl, inr, arith}
+use Rattle.std.proofs.lemmas.Bool.{cases_Bool, cases_eq, cond-true, leb-true, and_parts, and_from}
 use Rattle.std.proofs.lemmas.List.{length-take-le, length-drop, get_or_past}
 use Rattle.std.proofs.lemmas.List.FromFn.{length-map-range_with_len, get_or-map-range_with_len}
 use Rattle.format.specs.Meaning.{Meaning}
@@ -43,7 +43,7 @@ unfolding traced
 traced_is m y ws x = refl
 
 ended_8 : (m : Meaning) (v : Heap) → targets_ended m v ≡ heap v.state (targets_closed m v.state v.words 8) v.marks v.greys
-ended_8 m v = ap (λ ws. heap v.state ws v.marks v.greys) (targets_8 m v.state v.words)
+ended_8 m v = rw (targets_8 m v.state v.words) refl
 
 -- the registers fixed, and what is nailed before
 abbrev pub fixed_roots : Meaning → Plan → List ℕ → Rooted → Rooted
@@ -89,8 +89,7 @@ zones_have y g zero s l c m = absurd (omega arith)
 zones_have y g (suc k) s l c m = elim (cases_eq s k) [
   | inr n ↦ joined_left (zones_of y g k) (zone_if y g k) (zone_of (s * 256)) (zones_have y g k s (omega arith) c m)
   | inl e ↦ joined_right (zones_of y g k) (zone_if y g k) (zone_of (s * 256))
-      (subst (λ (j : ℕ). has_zone (zone_if y g j) (zone_of (s * 256)) ≡ true) e
-      (rw (cond-true (get_or y.condemned s false && moves y.classes (owner_of g s)) (zone_bit (s * 256)) 0 (and_from _ _ c m)) (own_zone (s * 256))))
+      (rw (← e, cond-true (get_or y.condemned s false && moves y.classes (owner_of g s)) (zone_bit (s * 256)) 0 (and_from _ _ c m)) (own_zone (s * 256)))
 ]
 
 -- that of an address in a condemned AMC segment is one
@@ -98,7 +97,7 @@ pub aged_zone : (y : Plan) (g : Segments) (a : ℕ) → a / 256 < 256 → condem
 unfolding all_zones
 aged_zone y g a l c m =
     let e : zone_of (a / 256 * 256) ≡ zone_of a = omega arith in
-    subst (λ (z : ℕ). has_zone (zones_of y g 256) z ≡ true) e (zones_have y g 256 (a / 256) l c m)
+    rw (← e) (zones_have y g 256 (a / 256) l c m)
 
 -- ---- closing buffers leaves as many words
 
@@ -115,9 +114,8 @@ module _ (m : Meaning) (laws : Lawful m) where
     | inl h ↦ (let p = and_parts (leb a e) (leb e (length ws)) h in
         let l = leb-true a e p.0 in
         let k = leb-true e (length ws) p.1 in
-        ap length (cond-true (leb a e && leb e (length ws)) _ ws h)
-        ∙ length_put a (e - a) ws (pad_words m (part a (e - a) ws)) (omega arith) (padded_long (part a (e - a) ws) ∙ length-take-le (e - a) (drop a ws) (omega (arith, length-drop a ws))))
-    | inr h ↦ ap length (cond-false (leb a e && leb e (length ws)) _ ws h)
+        rw h (length_put a (e - a) ws (pad_words m (part a (e - a) ws)) (omega arith) (padded_long (part a (e - a) ws) ∙ length-take-le (e - a) (drop a ws) (omega (arith, length-drop a ws)))))
+    | inr h ↦ rw h refl
   ]
 
   buffers_long : (bs : List Buffer) (ws : List ℕ) (k : ℕ) → length (buffers_closed m bs ws k) ≡ length ws

@@ -1,9 +1,9 @@
-use Rattle.std.proofs.Common.{◌≡◌, ap, ◌∙◌, arith}
-use Rattle.trace.specs.Collections.{zones_of, all_zones}
+use Rattle.std.proofs.Common.{◌≡◌, arith}
+use Rattle.trace.specs.Collections.{all_zones}
 use Rattle.trace.proofs.state.Plan.condemned_zones.Goals as goal
 
 pub returns : goal.returns
 unfolding all_zones
 returns c =
     let e : c.loop-s.s ≡ 256 = omega arith in
-    c.loop-s.invariant ∙ ap (zones_of c.args.self.now c.args.segments.now) e
+    rw e at c.loop-s.invariant

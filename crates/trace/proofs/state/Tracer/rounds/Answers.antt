@@ -1,5 +1,4 @@
-use Rattle.std.proofs.Common.{◌≡◌, ◌+◌, ◌-◌, sym, ap, ◌∙◌, arith, rules}
-use Rattle.trace.specs.Traces.{rounded}
+use Rattle.std.proofs.Common.{◌≡◌, ◌+◌, ◌-◌, sym, ◌∙◌, arith, rules}
 use Rattle.trace.specs.Lent.{contents}
 use Rattle.trace.proofs.Turns.{stop, more}
 use Rattle.trace.proofs.state.Tracer.rounds.Goals as goal
@@ -14,9 +13,7 @@ loop-preserved g c =
     let m = g.F.Format.meaning c.args.self.now.format.now in
     let y = c.args.self.now.plan.now in
     let e : c.args.n - (c.loop.counter + 1) ≡ c.args.n - c.loop.counter - 1 = omega arith in (
-      ap (λ k. rounded m y k (contents c.turn.new.heap)) e
-          ∙ ap (rounded m y (c.args.n - c.loop.counter - 1)) c.turn.ensures.after
-          ∙ sym (more m y (c.args.n - c.loop.counter) (contents c.loop.heap) (omega arith) c.in-Some.a c.in-Some.ensures)
-          ∙ c.loop.invariant.0,
+      rw (e, c.turn.ensures.after)
+          (sym (more m y (c.args.n - c.loop.counter) (contents c.loop.heap) (omega arith) c.in-Some.a c.in-Some.ensures) ∙ c.loop.invariant.0),
       search rules,
     )

@@ -1,8 +1,5 @@
-use Rattle.std.proofs.Common.{ap, ◌∙◌, add-one}
-use Rattle.trace.specs.Collections.{segment_swept}
+use Rattle.std.proofs.Common.{add-one}
 use Rattle.trace.proofs.state.Tracer.sweep_segments.Goals as goal
 
 pub loop-s-preserved : goal.loop-s-preserved
-loop-s-preserved g c =
-    rw (add-one c.loop-s.s)
-    (c.sweep_condemned.ensures ∙ ap (λ x. segment_swept (g.F.Format.meaning c.args.self.now.format.now) c.args.self.now.plan.now c.args.marks.now x c.loop-s.s) c.loop-s.invariant)
+loop-s-preserved g c = rw (add-one c.loop-s.s, ← c.loop-s.invariant) c.sweep_condemned.ensures
