@@ -20,8 +20,7 @@ impl Memory<'_> {
     {
         let words = self.words.len();
         words % 256 == 0
-            && 1024 <= words
-            && words <= 65536
+            && (1024..=65536).contains(&words)
             && words <= F::GREATEST_ADDRESS as usize + 1
             && self.marks.len() == words / 32
             && self.greys.len() == words / 32
@@ -41,7 +40,8 @@ fn tally(moved: u32, marks: &mut [u32], greys: &mut [u32]) -> u32
 }
 
 impl<F: Format> Tracer<'_, F> {
-    // Traces what is condemned, sweeps it, and clears the boards.
+    // Traces what is condemned, sweeps it, and clears the boards. The slices of the memory come one by one,
+    // since the check does not cover a heap that is made of them where they lie.
     fn perform(
         &self,
         arena: &mut Arena,

@@ -72,7 +72,7 @@ impl<F: Format> Tracer<'_, F> {
         requires { (base ≤ limit) × (limit ≤ length heap.now.words.now) }
         ensures { result ≡ pointed_in (F.Format.meaning self.now.format.now) heap.now.words.now heap.now.marks.now base limit word }
     {
-        // By a cursor, since where a thing ends is known once it was looked at.
+        // By a cursor: an iterator would serve this walk alone, since the other two write what they go over.
         let mut at = base;
         while at < limit {
             let end = self.end_at(heap, at, limit);

@@ -36,8 +36,7 @@ fn stand_of<F: Format>(format: &F, marks: &[u32], at: usize, limit: usize, head:
             end: at + format.size(shape),
             is_kept: is_set(marks, at),
         },
-        Head::Forwarded { size, .. } => loose(at + size),
-        Head::Padding { size } => loose(at + size),
+        Head::Forwarded { size, .. } | Head::Padding { size } => loose(at + size),
     }
 }
 

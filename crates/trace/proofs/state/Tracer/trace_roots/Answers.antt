@@ -8,6 +8,6 @@ pub returns-clause-after : goal.returns-clause-after
 returns-clause-after g c =
     chain (g.F.Format.meaning c.args.self.now.format.now) c.args.self.now.plan.now c.args.ambiguous.now
     (rooted c.args.registers.now (contents c.args.heap.now))
-    (contents c.nail_all.new.heap) c.fix_registers.new.registers (contents c.fix_registers.new.heap) (contents c.scan_segments.new.heap) (contents c.rounds.new.heap)
-    _ _
-    c.nail_all.ensures.after c.fix_registers.ensures.after c.scan_segments.ensures.after (omega (arith, c.scan_segments.ensures.lent)) c.rounds.ensures.after c.close_targets.ensures
+    (contents c.nail_all.new.heap) c.fix_registers.new.registers (contents c.fix_registers.new.heap) (contents c.scan_segments.new.heap) (contents c.rounds.new.heap) (contents c.close_targets.new.heap)
+    _
+    c.nail_all.ensures.after c.fix_registers.ensures.after c.scan_segments.ensures.after (omega (arith, c.scan_segments.ensures.lent)) c.rounds.ensures.after c.close_targets.ensures.after
