@@ -77,6 +77,7 @@ impl Arena {
         ensures words { words.new ≡ all_buffers_closed (F.Format.meaning format.now) self.old.buffers words.old }
         ensures arena { self.new ≡ unbuffered self.old }
     {
+        // Not by `close` of each: with `iter_mut` what the buffers are then was tried, and stayed open.
         for buffer in &self.buffers {
             pad_part(format, words, buffer.init, buffer.limit);
         }

@@ -11,7 +11,8 @@ use arena::is_set;
 use format::{Format, Head};
 
 // What becomes of the object at a reference: a value and no closure, since what is decided is half of
-// what the contract of `fix` says.
+// what the contract of `fix` says. A pool is its number here, as in the definitions, and not a type of numbers
+// below 8, which each of them would have to take apart.
 #[derive(Clone, Copy, PartialEq, Eq, Debug)]
 pub(crate) enum Fate {
     Stay,

@@ -10,6 +10,7 @@ use format::Format;
 impl<F: Format> Tracer<'_, F> {
     // Nails what ambiguous words point into, fixes the registers and what is not condemned, scans while
     // something is grey, and pads the rests of the targets.
+    #[tactic(auto, unfolding(crate::specs::Collections::traced))]
     pub(crate) fn trace_roots(
         &self,
         heap: &mut Heap<'_>,
