@@ -116,7 +116,7 @@ impl Arena {
     }
 
     // Collects a set of pools, bit p for pool p. The answer is 65,536 times the objects moved plus the
-    // objects kept in place.
+    // objects kept in place: one word, as a call of the store answers.
     pub fn collect<F: Format>(
         &mut self,
         format: &F,

@@ -46,6 +46,7 @@ impl Plan {
     pub(crate) fn condemned_zones(&self, segments: &Segments) -> u32
         ensures { result ≡ all_zones self.now segments.now }
     {
+        // A loop, since of a fold the check does not know what its closure did at each segment.
         let mut zones = 0;
         for s in 0..256usize {
             zones |= self.condemned_zone(segments, s as u8);

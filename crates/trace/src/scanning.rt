@@ -1,4 +1,5 @@
-// Scanning objects: fixing each of their references.
+// Scanning objects: fixing each of their references. That an object's words lie in the arena is asked by each
+// function and not of a type, since the arena's length is the heap's.
 ghost use Rattle.std.specs.Prelude.{◌≡◌, ◌+◌, ◌≤◌, length};
 ghost use Rattle.trace.specs.Traces.{slot_fixed, slots_fixed, scanned, turned, rounded};
 ghost use Rattle.trace.specs.Lent.{contents, HeapStaysLent};
