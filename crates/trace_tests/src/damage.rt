@@ -27,6 +27,8 @@ impl<R: Abort, F: Format> Store<'_, R, F, 1280> {
         check_all(self.rt, "marks", &marks, 5);
         check_all(self.rt, "greys", &greys, 3);
         assert_eq!(self.rt; self.arena, before, "{lengths:?}");
+        self.check_owner(1, Some(0));
+        self.check_registers(&[256]);
     }
 
     // All of memory holds one word, and so does each board; a pool of each class has a segment.
