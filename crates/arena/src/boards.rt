@@ -1,4 +1,5 @@
-// A board has a bit for each word of the arena, 32 to a word. It is lent words, so these are functions.
+// A board has a bit for each word of the arena, 32 to a word. It is lent words, and these are functions: a
+// type around one lent slice would need a clause more in each contract.
 ghost use Rattle.std.specs.Prelude.{◌≡◌, length, replicate};
 ghost use Rattle.arena.specs.Boards.{bit, with_bit, without_bit, lowest_bit, FirstWord, ones_of, BoardLaws};
 

@@ -14,7 +14,7 @@ pub struct Buffer {
 }
 
 impl Buffer {
-    // Whether the buffer begins at a place. One without words begins nowhere.
+    // Whether the buffer begins at a place.
     fn begins_at(&self, place: usize) -> bool
         ensures { result ≡ begins self.now place }
     {

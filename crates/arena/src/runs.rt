@@ -10,14 +10,10 @@ use format::Format;
 fn fitting_run(from: usize, end: usize, size: usize) -> Option<Buffer>
     ensures { result ≡ fitting size from end }
 {
-    if from < end && size <= end - from {
-        Some(Buffer {
-            init: from,
-            limit: end,
-        })
-    } else {
-        None
-    }
+    (from < end && size <= end - from).then_some(Buffer {
+        init: from,
+        limit: end,
+    })
 }
 
 impl<F: Format> Rows<'_, F> {

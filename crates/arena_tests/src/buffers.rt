@@ -13,12 +13,12 @@ impl<R: Abort, F: Format> Bench<'_, R, F> {
         for (k, &(thing, buffers, end, step)) in rows.iter().enumerate() {
             let mut words = [OLD; 264];
             self.lay(&mut words, 8, &[thing])?;
-            let rows = Rows {
+            let walk = Rows {
                 format: self.format,
                 buffers,
                 words: &words,
             };
-            assert_eq!(self.rt; rows.next_step(8, end), step, "{}, row {k}", self.name);
+            assert_eq!(self.rt; walk.next_step(8, end), step, "{}, row {k}", self.name);
         }
         Ok(())
     }
@@ -100,18 +100,18 @@ fn steps(rt: HostRuntime) -> Result<(), Fail> {
 // An object is judged by its head alone: its one slot refers to 65,536, which it may not.
 #[test]
 fn steps_by_heads(rt: HostRuntime) {
-    let rows = Rows {
+    let walk = Rows {
         format: &Counted,
         buffers: &[],
         words: &[1 + 2 * 4 + 2048, 65_536],
     };
-    assert_eq!(rt; rows.next_step(0, 2), Some(Step::Thing(2)), "counted");
-    let rows = Rows {
+    assert_eq!(rt; walk.next_step(0, 2), Some(Step::Thing(2)), "counted");
+    let walk = Rows {
         format: &Tagged,
         buffers: &[],
         words: &[0x4002_0000, 2 * 65_536],
     };
-    assert_eq!(rt; rows.next_step(0, 2), Some(Step::Thing(2)), "tagged");
+    assert_eq!(rt; walk.next_step(0, 2), Some(Step::Thing(2)), "tagged");
 }
 
 impl<R: Abort, F: Format> Bench<'_, R, F> {
@@ -136,8 +136,8 @@ impl<R: Abort, F: Format> Bench<'_, R, F> {
             buffer.close(self.format, &mut words);
             assert_eq!(self.rt; words, after, "{}, row {k}, closed", self.name);
             assert_eq!(self.rt;
-                (buffer.init, buffer.limit),
-                (0, 0),
+                buffer,
+                Buffer { init: 0, limit: 0 },
                 "{}, row {k}, closed",
                 self.name
             );

@@ -6,13 +6,13 @@ use format::Format;
 use std::process::Abort;
 use std::test::Fail;
 
-// Where a run begins, and where it ends.
-fn span(run: Buffer) -> (usize, usize) {
-    (run.init, run.limit)
+// A run, by where it begins and where it ends.
+fn span(init: usize, limit: usize) -> Buffer {
+    Buffer { init, limit }
 }
 
 // A size, and the lowest run of at least so many words.
-type Fit = (usize, Option<(usize, usize)>);
+type Fit = (usize, Option<Buffer>);
 
 impl<R: Abort, F: Format> Bench<'_, R, F> {
     // Each row is the things of segment 1, from word 256 on, the buffers, and what is found there.
@@ -22,19 +22,14 @@ impl<R: Abort, F: Format> Bench<'_, R, F> {
         for (k, &(things, buffers, fits)) in rows.iter().enumerate() {
             let mut words = [OLD; 1024];
             self.lay(&mut words, 256, things)?;
-            let rows = Rows {
+            let walk = Rows {
                 format: self.format,
                 buffers,
                 words: &words,
             };
             for &(size, run) in fits {
-                let found = rows.lowest_run(&segments, 5, size);
-                assert_eq!(self.rt;
-                    found.map(span),
-                    run,
-                    "{}, row {k}, {size} words",
-                    self.name
-                );
+                let found = walk.lowest_run(&segments, 5, size);
+                assert_eq!(self.rt; found, run, "{}, row {k}, {size} words", self.name);
             }
         }
         Ok(())
@@ -80,10 +75,10 @@ fn check_segment_rows(bench: &Bench<impl Abort, impl Format>) -> Result<(), Fail
             &[Padding(256), Padding(256)],
             &[],
             &[
-                (0, Some((256, 512))),
-                (1, Some((256, 512))),
-                (255, Some((256, 512))),
-                (256, Some((256, 512))),
+                (0, Some(span(256, 512))),
+                (1, Some(span(256, 512))),
+                (255, Some(span(256, 512))),
+                (256, Some(span(256, 512))),
                 (257, None),
                 (usize::MAX, None),
             ],
@@ -93,11 +88,11 @@ fn check_segment_rows(bench: &Bench<impl Abort, impl Format>) -> Result<(), Fail
             &[Padding(10), Padding(20), Object(128), Padding(98)],
             &[],
             &[
-                (1, Some((256, 286))),
-                (11, Some((256, 286))),
-                (30, Some((256, 286))),
-                (31, Some((414, 512))),
-                (98, Some((414, 512))),
+                (1, Some(span(256, 286))),
+                (11, Some(span(256, 286))),
+                (30, Some(span(256, 286))),
+                (31, Some(span(414, 512))),
+                (98, Some(span(414, 512))),
                 (99, None),
             ],
         ),
@@ -111,11 +106,11 @@ fn check_segment_rows(bench: &Bench<impl Abort, impl Format>) -> Result<(), Fail
             ],
             &[],
             &[
-                (20, Some((256, 276))),
-                (21, Some((278, 308))),
-                (30, Some((278, 308))),
-                (31, Some((312, 512))),
-                (200, Some((312, 512))),
+                (20, Some(span(256, 276))),
+                (21, Some(span(278, 308))),
+                (30, Some(span(278, 308))),
+                (31, Some(span(312, 512))),
+                (200, Some(span(312, 512))),
                 (201, None),
             ],
         ),
@@ -123,53 +118,61 @@ fn check_segment_rows(bench: &Bench<impl Abort, impl Format>) -> Result<(), Fail
         (
             &[Object(5), Padding(3), Padding(4), Object(120), Object(124)],
             &[],
-            &[(7, Some((261, 268))), (8, None)],
+            &[(7, Some(span(261, 268))), (8, None)],
         ),
         // not cut, and cut by a buffer whose words hold a padding
         (
             &THREE,
             &[],
-            &[(11, Some((256, 512))), (256, Some((256, 512)))],
+            &[(11, Some(span(256, 512))), (256, Some(span(256, 512)))],
         ),
         (
             &THREE,
             &[FROM_266_TO_300],
             &[
-                (10, Some((256, 266))),
-                (11, Some((300, 512))),
-                (212, Some((300, 512))),
+                (10, Some(span(256, 266))),
+                (11, Some(span(300, 512))),
+                (212, Some(span(300, 512))),
                 (213, None),
             ],
         ),
         // not cut by a buffer without words
-        (&THREE, &[EMPTY_AT_266], &[(256, Some((256, 512)))]),
+        (&THREE, &[EMPTY_AT_266], &[(256, Some(span(256, 512)))]),
         // a buffer whose words hold nothing
         (
             &[Padding(10), Nothing(34), Padding(212)],
             &[FROM_266_TO_300],
-            &[(10, Some((256, 266))), (11, Some((300, 512))), (213, None)],
+            &[
+                (10, Some(span(256, 266))),
+                (11, Some(span(300, 512))),
+                (213, None),
+            ],
         ),
         // objects, and behind them what is left of the buffer in which they were made
         (
             &[Padding(10), Object(14), Nothing(20), Padding(212)],
             &[FROM_280_TO_300],
-            &[(10, Some((256, 266))), (11, Some((300, 512))), (213, None)],
+            &[
+                (10, Some(span(256, 266))),
+                (11, Some(span(300, 512))),
+                (213, None),
+            ],
         ),
         // a buffer at the begin of the segment, at its end, and both
         (
             &THREE,
             &[FROM_256_TO_266],
-            &[(1, Some((266, 512))), (247, None)],
+            &[(1, Some(span(266, 512))), (247, None)],
         ),
         (
             &THREE,
             &[FROM_300_TO_512],
-            &[(1, Some((256, 300))), (45, None)],
+            &[(1, Some(span(256, 300))), (45, None)],
         ),
         (
             &THREE,
             &[FROM_300_TO_512, FROM_256_TO_266],
-            &[(34, Some((266, 300))), (35, None)],
+            &[(34, Some(span(266, 300))), (35, None)],
         ),
         (
             &THREE,
@@ -180,23 +183,23 @@ fn check_segment_rows(bench: &Bench<impl Abort, impl Format>) -> Result<(), Fail
         (
             &[Padding(4), Padding(5), Nothing(1), Padding(246)],
             &[],
-            &[(9, Some((256, 265))), (10, None)],
+            &[(9, Some(span(256, 265))), (10, None)],
         ),
         (
             &[Padding(4), Object(5), Nothing(1), Padding(246)],
             &[],
-            &[(4, Some((256, 260))), (5, None)],
+            &[(4, Some(span(256, 260))), (5, None)],
         ),
         // a thing that passes the end of the segment is none
         (
             &[Padding(128), Padding(127), Padding(2)],
             &[],
-            &[(255, Some((256, 511))), (256, None)],
+            &[(255, Some(span(256, 511))), (256, None)],
         ),
         (
             &[Object(128), Padding(120), Object(9)],
             &[],
-            &[(120, Some((384, 504))), (121, None)],
+            &[(120, Some(span(384, 504))), (121, None)],
         ),
     ])
 }
@@ -221,38 +224,37 @@ impl<R: Abort, F: Format> Bench<'_, R, F> {
         self.lay(&mut words, 512, &[Padding(50), Object(128)])?;
         self.lay(&mut words, 768, &[Padding(256); 3])?;
         // how many words the arena has, the pool, the size and the run
-        let rows = [
-            (1_536, 6, 1, Some((256, 356))),
-            (1_536, 6, 100, Some((256, 356))),
-            (1_536, 6, 101, Some((768, 1_024))),
+        let rows: [(usize, u8, usize, Option<Buffer>); 17] = [
+            (1_536, 6, 1, Some(span(256, 356))),
+            (1_536, 6, 100, Some(span(256, 356))),
+            (1_536, 6, 101, Some(span(768, 1_024))),
             (1_536, 6, 257, None),
-            (1_536, 5, 50, Some((512, 562))),
-            (1_536, 5, 51, Some((1_024, 1_280))),
-            (1_536, 5, 256, Some((1_024, 1_280))),
+            (1_536, 5, 50, Some(span(512, 562))),
+            (1_536, 5, 51, Some(span(1_024, 1_280))),
+            (1_536, 5, 256, Some(span(1_024, 1_280))),
             // no run goes on into the next segment
             (1_536, 5, 257, None),
             // a pool without segments
             (1_536, 0, 0, None),
             (1_536, 7, 1, None),
             // segments that do not lie in the arena
-            (1_280, 5, 51, Some((1_024, 1_280))),
+            (1_280, 5, 51, Some(span(1_024, 1_280))),
             (1_279, 5, 51, None),
-            (1_279, 5, 50, Some((512, 562))),
-            (1_279, 6, 101, Some((768, 1_024))),
+            (1_279, 5, 50, Some(span(512, 562))),
+            (1_279, 6, 101, Some(span(768, 1_024))),
             (1_023, 6, 101, None),
             (511, 6, 1, None),
             (0, 6, 0, None),
         ];
         for (k, (len, pool, size, run)) in rows.into_iter().enumerate() {
-            let len: usize = len;
             assert!(self.rt; len <= 1_536);
-            let rows = Rows {
+            let walk = Rows {
                 format: self.format,
                 buffers: &[],
                 words: &words[..len],
             };
-            let found = rows.lowest_run(&segments, pool, size);
-            assert_eq!(self.rt; found.map(span), run, "{}, row {k}", self.name);
+            let found = walk.lowest_run(&segments, pool, size);
+            assert_eq!(self.rt; found, run, "{}, row {k}", self.name);
         }
         Ok(())
     }

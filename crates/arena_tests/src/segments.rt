@@ -129,7 +129,7 @@ fn lowest_free_segments_from_a_place_on(rt: HostRuntime) {
 // if the segment lies in the arena: otherwise nothing changes.
 #[test]
 fn freeing(rt: HostRuntime) {
-    let rows = [
+    let rows: [(usize, u8, Option<(usize, usize)>); 9] = [
         (1_024, 1, Some((256, 512))),
         (1_024, 2, Some((512, 768))),
         (1_024, 3, Some((768, 1_024))),
@@ -141,7 +141,6 @@ fn freeing(rt: HostRuntime) {
         (0, 1, None),
     ];
     for (k, (len, freed, cleared)) in rows.into_iter().enumerate() {
-        let len: usize = len;
         assert!(rt; len <= 1_024);
         let mut segments = Segments::new();
         for segment in 1..4 {

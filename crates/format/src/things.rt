@@ -66,7 +66,8 @@ impl Kind {
 }
 
 // An object format. Its functions look at single words and write without asking: `look`, `read`,
-// `make`, `set_slot`, `forward` and `pad` are built on them once for every format, and refuse.
+// `make`, `set_slot`, `forward` and `pad` are built on them once for every format, and refuse. They are
+// functions and no methods with a body, since no format is to write them anew.
 pub trait Format {
     const GREATEST_NUMBER: u32;
 

@@ -1,11 +1,7 @@
 // The counted format: the layout counts the references, which come before the numbers.
-use crate::both;
 use crate::checks::Header::{IsForwarded, IsObject, IsPadding, NoThing};
 use crate::checks::Write::{Make, Set};
-use crate::checks::{
-    Header, Headers, check_changes, check_fresh, check_greatest, check_headers, check_lengths,
-    check_readings, check_unused_bits, forwarded, object, padding,
-};
+use crate::checks::{Bench, Header, Headers, forwarded, object, padding};
 use format::Head;
 use format::Slot::{Number, Reference};
 use formats::Counted;
@@ -26,105 +22,94 @@ impl Headers for Counted {
 
 #[test]
 fn headers(rt: HostRuntime) {
-    both::headers(&rt, &Counted);
-    check_headers(
-        &rt,
-        &Counted,
-        &[
-            // an object's layout is at most the number of its slots
-            (IsObject(1, 1), Head::Nothing),
-            (IsObject(2, 3), object(2, 2)),
-            (IsObject(3, 3), Head::Nothing),
-            (IsObject(126, 127), object(126, 126)),
-            (IsObject(127, 127), Head::Nothing),
-            (IsObject(127, 128), object(127, 127)),
-            (IsObject(128, 128), Head::Nothing),
-        ],
-    );
+    let bench = Bench::new(&rt, &Counted);
+    bench.common_headers();
+    bench.check_headers(&[
+        // an object's layout is at most the number of its slots
+        (IsObject(1, 1), Head::Nothing),
+        (IsObject(2, 3), object(2, 2)),
+        (IsObject(3, 3), Head::Nothing),
+        (IsObject(126, 127), object(126, 126)),
+        (IsObject(127, 127), Head::Nothing),
+        (IsObject(127, 128), object(127, 127)),
+        (IsObject(128, 128), Head::Nothing),
+    ]);
 }
 
 #[test]
 fn unused_bits(rt: HostRuntime) {
-    check_unused_bits(
-        &rt,
-        &Counted,
-        &[
-            // bits 18 to 31
-            (IsObject(127, 128), object(127, 127), 0xfffc_0000),
-            // bits 11 to 15
-            (IsForwarded(128, 256), forwarded(128, 256), 0x0000_f800),
-            // bits 11 to 31
-            (IsPadding(128), padding(128), 0xffff_f800),
-        ],
-    );
+    let bench = Bench::new(&rt, &Counted);
+    bench.check_unused_bits(&[
+        // bits 18 to 31
+        (IsObject(127, 128), object(127, 127), 0xfffc_0000),
+        // bits 11 to 15
+        (IsForwarded(128, 256), forwarded(128, 256), 0x0000_f800),
+        // bits 11 to 31
+        (IsPadding(128), padding(128), 0xffff_f800),
+    ]);
 }
 
 #[test]
 fn lengths(rt: HostRuntime) {
-    both::lengths(&rt, &Counted);
-    check_lengths(&rt, &Counted, &[(IsObject(1, 2), 2, object(1, 1))]);
+    let bench = Bench::new(&rt, &Counted);
+    bench.common_lengths();
+    bench.check_lengths(&[(IsObject(1, 2), 2, object(1, 1))]);
 }
 
 #[test]
 fn readings(rt: HostRuntime) {
+    let bench = Bench::new(&rt, &Counted);
     // an object of a reference, one of a number, and one of two references and a number
     let refers = Counted::word(IsObject(1, 2));
     let counts = Counted::word(IsObject(0, 2));
     let three = Counted::word(IsObject(2, 4));
     let gone = Counted::word(IsForwarded(3, 256));
     let blank = Counted::word(IsPadding(3));
-    check_readings(
-        &rt,
-        &Counted,
-        &[
-            // a reference is at most 65,535
-            (&[refers, 65_535], object(1, 1), &[Reference(65_535)]),
-            (&[refers, 65_536], Head::Nothing, &[]),
-            (&[refers, 4_294_967_295], Head::Nothing, &[]),
-            // a number is any word
-            (
-                &[counts, 2_147_483_647],
-                object(0, 1),
-                &[Number(2_147_483_647)],
-            ),
-            (
-                &[counts, 4_294_967_295],
-                object(0, 1),
-                &[Number(4_294_967_295)],
-            ),
-            // references come first, and each is looked at
-            (
-                &[three, 0, 65_535, 65_536],
-                object(2, 3),
-                &[Reference(0), Reference(65_535), Number(65_536)],
-            ),
-            (&[three, 0, 65_536, 0], Head::Nothing, &[]),
-            // no other word is
-            (&[refers, 0, 65_536], object(1, 1), &[Reference(0)]),
-            (&[gone, 65_536, 65_536], forwarded(3, 256), &[]),
-            (&[blank, 65_536, 65_536], padding(3), &[]),
-        ],
-    );
+    bench.check_readings(&[
+        // a reference is at most 65,535
+        (&[refers, 65_535], object(1, 1), &[Reference(65_535)]),
+        (&[refers, 65_536], Head::Nothing, &[]),
+        (&[refers, 4_294_967_295], Head::Nothing, &[]),
+        // a number is any word
+        (
+            &[counts, 2_147_483_647],
+            object(0, 1),
+            &[Number(2_147_483_647)],
+        ),
+        (
+            &[counts, 4_294_967_295],
+            object(0, 1),
+            &[Number(4_294_967_295)],
+        ),
+        // references come first, and each is looked at
+        (
+            &[three, 0, 65_535, 65_536],
+            object(2, 3),
+            &[Reference(0), Reference(65_535), Number(65_536)],
+        ),
+        (&[three, 0, 65_536, 0], Head::Nothing, &[]),
+        // no other word is
+        (&[refers, 0, 65_536], object(1, 1), &[Reference(0)]),
+        (&[gone, 65_536, 65_536], forwarded(3, 256), &[]),
+        (&[blank, 65_536, 65_536], padding(3), &[]),
+    ]);
 }
 
 #[test]
 fn makes_and_pads(rt: HostRuntime) {
-    both::makes_and_pads(&rt, &Counted);
-    check_fresh(
-        &rt,
-        &Counted,
-        &[
-            (4, Make(2, 3), Ok(IsObject(2, 4))),
-            (4, Make(3, 3), Ok(IsObject(3, 4))),
-            (128, Make(127, 127), Ok(IsObject(127, 128))),
-            // a layout past the slots, before the length
-            (4, Make(4, 3), Err(4)),
-            (3, Make(4, 3), Err(4)),
-            // a word too few or too many
-            (3, Make(2, 3), Err(7)),
-            (5, Make(2, 3), Err(7)),
-        ],
-    );
+    let bench = Bench::new(&rt, &Counted);
+    bench.common_makes_and_pads();
+    bench.check_fresh(&[
+        (4, Make(2, 3), Ok(IsObject(2, 4))),
+        (4, Make(3, 3), Ok(IsObject(3, 4))),
+        (128, Make(127, 127), Ok(IsObject(127, 128))),
+        // a layout past the slots, before the length
+        (4, Make(4, 3), Err(4)),
+        (3, Make(4, 3), Err(4)),
+        // a word too few or too many
+        (3, Make(2, 3), Err(7)),
+        (5, Make(2, 3), Err(7)),
+    ]);
 }
 
 // An object of a reference and a number.
@@ -132,11 +117,10 @@ const PAIR: Header = IsObject(1, 3);
 
 #[test]
 fn sets_and_forwards(rt: HostRuntime) {
-    both::sets_and_forwards(&rt, &Counted, PAIR);
+    let bench = Bench::new(&rt, &Counted);
+    bench.common_sets_and_forwards(PAIR);
     let pair = Counted::word(PAIR);
-    check_changes(
-        &rt,
-        &Counted,
+    bench.check_changes(
         [pair, 7, 8],
         &[
             (Set(0, Reference(65_535)), Ok([pair, 65_535, 8])),
@@ -150,10 +134,12 @@ fn sets_and_forwards(rt: HostRuntime) {
 
 #[test]
 fn no_object(rt: HostRuntime) {
-    both::no_object(&rt, &Counted, PAIR, 0x8000_0000);
+    let bench = Bench::new(&rt, &Counted);
+    bench.common_no_object(PAIR, 0x8000_0000);
 }
 
 #[test]
 fn greatest_object(rt: HostRuntime) -> Result<(), Fail> {
-    check_greatest(&rt, &Counted, 5)
+    let bench = Bench::new(&rt, &Counted);
+    bench.check_greatest(5)
 }

@@ -1,11 +1,7 @@
 // The tagged format: each slot says itself whether it is a reference or a number.
-use crate::both;
 use crate::checks::Header::{IsForwarded, IsObject, IsPadding, NoThing};
 use crate::checks::Write::{Make, Set};
-use crate::checks::{
-    Header, Headers, check_changes, check_fresh, check_greatest, check_lengths, check_readings,
-    check_unused_bits, forwarded, object, padding,
-};
+use crate::checks::{Bench, Header, Headers, forwarded, object, padding};
 use format::Head;
 use format::Slot::{Number, Reference};
 use formats::Tagged;
@@ -26,84 +22,77 @@ impl Headers for Tagged {
 
 #[test]
 fn headers(rt: HostRuntime) {
-    both::headers(&rt, &Tagged);
+    let bench = Bench::new(&rt, &Tagged);
+    bench.common_headers();
 }
 
 #[test]
 fn unused_bits(rt: HostRuntime) {
-    check_unused_bits(
-        &rt,
-        &Tagged,
-        &[
-            // bits 0 to 15 and 25 to 29
-            (IsObject(0, 128), object(0, 127), 0x3e00_ffff),
-            // bits 25 to 29
-            (IsForwarded(128, 256), forwarded(128, 256), 0x3e00_0000),
-            // bits 0 to 15 and 25 to 29
-            (IsPadding(128), padding(128), 0x3e00_ffff),
-        ],
-    );
+    let bench = Bench::new(&rt, &Tagged);
+    bench.check_unused_bits(&[
+        // bits 0 to 15 and 25 to 29
+        (IsObject(0, 128), object(0, 127), 0x3e00_ffff),
+        // bits 25 to 29
+        (IsForwarded(128, 256), forwarded(128, 256), 0x3e00_0000),
+        // bits 0 to 15 and 25 to 29
+        (IsPadding(128), padding(128), 0x3e00_ffff),
+    ]);
 }
 
 #[test]
 fn lengths(rt: HostRuntime) {
-    both::lengths(&rt, &Tagged);
-    check_lengths(&rt, &Tagged, &[(IsObject(0, 2), 2, object(0, 1))]);
+    let bench = Bench::new(&rt, &Tagged);
+    bench.common_lengths();
+    bench.check_lengths(&[(IsObject(0, 2), 2, object(0, 1))]);
 }
 
 #[test]
 fn readings(rt: HostRuntime) {
+    let bench = Bench::new(&rt, &Tagged);
     // objects of one slot and of three
     let one = Tagged::word(IsObject(0, 2));
     let three = Tagged::word(IsObject(0, 4));
     let gone = Tagged::word(IsForwarded(3, 256));
     let blank = Tagged::word(IsPadding(3));
-    check_readings(
-        &rt,
-        &Tagged,
-        &[
-            // a reference is at most 65,535
-            (&[one, 131_070], object(0, 1), &[Reference(65_535)]),
-            (&[one, 131_072], Head::Nothing, &[]),
-            (&[one, 4_294_967_294], Head::Nothing, &[]),
-            // a number is any odd word
-            (&[one, 131_073], object(0, 1), &[Number(65_536)]),
-            (
-                &[one, 4_294_967_295],
-                object(0, 1),
-                &[Number(2_147_483_647)],
-            ),
-            // each slot says what it is, and is looked at
-            (
-                &[three, 1, 0, 3],
-                object(0, 3),
-                &[Number(0), Reference(0), Number(1)],
-            ),
-            (&[three, 1, 131_072, 3], Head::Nothing, &[]),
-            // no other word is
-            (&[one, 0, 131_072], object(0, 1), &[Reference(0)]),
-            (&[gone, 131_072, 131_072], forwarded(3, 256), &[]),
-            (&[blank, 131_072, 131_072], padding(3), &[]),
-        ],
-    );
+    bench.check_readings(&[
+        // a reference is at most 65,535
+        (&[one, 131_070], object(0, 1), &[Reference(65_535)]),
+        (&[one, 131_072], Head::Nothing, &[]),
+        (&[one, 4_294_967_294], Head::Nothing, &[]),
+        // a number is any odd word
+        (&[one, 131_073], object(0, 1), &[Number(65_536)]),
+        (
+            &[one, 4_294_967_295],
+            object(0, 1),
+            &[Number(2_147_483_647)],
+        ),
+        // each slot says what it is, and is looked at
+        (
+            &[three, 1, 0, 3],
+            object(0, 3),
+            &[Number(0), Reference(0), Number(1)],
+        ),
+        (&[three, 1, 131_072, 3], Head::Nothing, &[]),
+        // no other word is
+        (&[one, 0, 131_072], object(0, 1), &[Reference(0)]),
+        (&[gone, 131_072, 131_072], forwarded(3, 256), &[]),
+        (&[blank, 131_072, 131_072], padding(3), &[]),
+    ]);
 }
 
 #[test]
 fn makes_and_pads(rt: HostRuntime) {
-    both::makes_and_pads(&rt, &Tagged);
-    check_fresh(
-        &rt,
-        &Tagged,
-        &[
-            (128, Make(0, 127), Ok(IsObject(0, 128))),
-            // a layout but 0, before the length
-            (4, Make(1, 3), Err(4)),
-            (3, Make(1, 3), Err(4)),
-            // a word too few or too many
-            (3, Make(0, 3), Err(7)),
-            (5, Make(0, 3), Err(7)),
-        ],
-    );
+    let bench = Bench::new(&rt, &Tagged);
+    bench.common_makes_and_pads();
+    bench.check_fresh(&[
+        (128, Make(0, 127), Ok(IsObject(0, 128))),
+        // a layout but 0, before the length
+        (4, Make(1, 3), Err(4)),
+        (3, Make(1, 3), Err(4)),
+        // a word too few or too many
+        (3, Make(0, 3), Err(7)),
+        (5, Make(0, 3), Err(7)),
+    ]);
 }
 
 // An object of two slots.
@@ -111,11 +100,10 @@ const PAIR: Header = IsObject(0, 3);
 
 #[test]
 fn sets_and_forwards(rt: HostRuntime) {
-    both::sets_and_forwards(&rt, &Tagged, PAIR);
+    let bench = Bench::new(&rt, &Tagged);
+    bench.common_sets_and_forwards(PAIR);
     let pair = Tagged::word(PAIR);
-    check_changes(
-        &rt,
-        &Tagged,
+    bench.check_changes(
         [pair, 7, 8],
         &[
             (Set(0, Reference(65_535)), Ok([pair, 131_070, 8])),
@@ -129,10 +117,12 @@ fn sets_and_forwards(rt: HostRuntime) {
 
 #[test]
 fn no_object(rt: HostRuntime) {
-    both::no_object(&rt, &Tagged, PAIR, 0x2000_0000);
+    let bench = Bench::new(&rt, &Tagged);
+    bench.common_no_object(PAIR, 0x2000_0000);
 }
 
 #[test]
 fn greatest_object(rt: HostRuntime) -> Result<(), Fail> {
-    check_greatest(&rt, &Tagged, 11)
+    let bench = Bench::new(&rt, &Tagged);
+    bench.check_greatest(11)
 }

@@ -4,7 +4,6 @@ mod Walks
 mod Pointing
 mod Tables
 mod Loops
-mod Chain
 mod Cells
 mod Facts
 mod Marking

@@ -7,7 +7,7 @@ use Rattle.format.specs.Laws.{Lawful}
 use Rattle.arena.specs.Boards.{bit}
 use Rattle.arena.specs.Buffers.{padded_part}
 use Rattle.trace.specs.declared.sweeping.Stand.{Stand}
-use Rattle.trace.specs.Traces.{kept, loose, stood, walked, row_by, thing_swept, thing_end}
+use Rattle.trace.specs.Traces.{loose, stood, walked, row_by, thing_swept, thing_end}
 use Rattle.trace.specs.Traces.{Row as SweepRow, row as sweep_row}
 use Rattle.trace.specs.Keeping.{Piece, Row, ends, piece}
 use Rattle.trace.proofs.Cells.{slots_of, layout_of, rd, Start}
@@ -16,6 +16,10 @@ use Rattle.trace.proofs.Effects.{Padded, pad_effect}
 use Rattle.trace.proofs.Busy.{is_object}
 use Rattle.trace.proofs.Looking.{seen_forwarded, seen_padding, seen_object}
 use Rattle.trace.proofs.Rows.{Sorted, sorted}
+
+-- a marked object that ends at e
+abbrev kept : ℕ → Stand
+kept e = record { end = e; is_kept = true }
 
 pub object_piece : (x : Thing) (l : ℕ) (ss : List Slot) → x ≡ object l ss → Piece x
 object_piece x l ss e = rw e tt

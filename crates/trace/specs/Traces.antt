@@ -1,5 +1,5 @@
 -- The trace: fix, scan, rounds and sweep.
-use Rattle.std.specs.Prelude.{◌≡◌, ℕ, zero, suc, ◌+◌, ◌-◌, ◌*◌, ◌/◌, ◌%◌, ◌<◌, ◌≤◌, min, Bool, true, false, cond, not, ◌&&◌, ◌||◌, List, length, Some, None, Option, ◌==◌, nat_le, nat_lt, slice_index, slice_index_or, slice_set}
+use Rattle.std.specs.Prelude.{◌≡◌, ℕ, zero, suc, ◌+◌, ◌-◌, ◌*◌, ◌/◌, ◌%◌, ◌<◌, ◌≤◌, min, Bool, false, cond, not, ◌&&◌, ◌||◌, List, length, Some, None, Option, ◌==◌, nat_le, nat_lt, slice_index, slice_index_or, slice_set}
 use borrow.Rule.Slice.PartMut.{put_mid}
 use Rattle.format.specs.declared.things.Shape.{Shape}
 use Rattle.format.specs.declared.things.Head.{Head}
@@ -215,10 +215,7 @@ rounded m y (suc k) v = next v (λ a. rounded m y k (turned m y v a)) (lowest_bi
 
 -- ---- the sweep of a segment
 
--- a thing that ends at e, and is a marked object or is not
-abbrev pub kept : ℕ → Stand
-kept e = record { end = e; is_kept = true }
-
+-- a thing that ends at e, and is no marked object
 abbrev pub loose : ℕ → Stand
 loose e = record { end = e; is_kept = false }
 

@@ -1,11 +1,11 @@
 // What follows the roots: the segments that are not condemned, the targets' rests, and the sweep.
 ghost use Rattle.std.specs.Prelude.{◌≡◌, ◌+◌, ◌*◌, ◌≤◌, length};
-ghost use Rattle.trace.specs.Collections.{row_scanned, refers, segment_scanned, all_scanned, all_targets_closed, ground, segment_swept, all_swept, value_of};
+ghost use Rattle.trace.specs.Collections.{row_scanned, refers, segment_scanned, all_scanned, targets_ended, ground, segment_swept, all_swept, value_of};
 ghost use Rattle.trace.specs.Lent.{contents, HeapStaysLent};
 
 use crate::fixing::pad_rest;
 use crate::heap::Heap;
-use crate::state::{Class, Plan, Trace, Tracer};
+use crate::state::{Class, Plan, Tracer};
 use crate::sweeping::sweep;
 use arena::{Owner, Segments, count_ones, segments_in};
 use format::Format;
@@ -59,17 +59,18 @@ impl<F: Format> Tracer<'_, F> {
     }
 }
 
-// Pads the rest of each pool's target.
-#[tactic(auto, using(crate::proofs::Loops::next_target), unfolding(crate::specs::Collections::all_targets_closed))]
-pub(crate) fn close_targets<F: Format>(format: &F, trace: &Trace, words: &mut [u32])
-    ensures { words.new ≡ all_targets_closed (F.Format.meaning format.now) trace.now words.old }
-{
-    for at in &trace.targets {
-        pad_rest(format, words, *at);
-    }
-}
-
 impl<F: Format> Tracer<'_, F> {
+    // Pads the rest of each pool's target.
+    #[tactic(auto, using(crate::proofs::Loops::next_target), unfolding(crate::specs::Collections::all_targets_closed))]
+    pub(crate) fn close_targets(&self, heap: &mut Heap<'_>)
+        ensures after { contents heap.new ≡ targets_ended (F.Format.meaning self.now.format.now) (contents heap.old) }
+        ensures lent { HeapStaysLent heap.old heap.new }
+    {
+        for at in heap.state.targets {
+            pad_rest(self.format, heap.words, at);
+        }
+    }
+
     fn sweep_condemned(
         &self,
         segments: &mut Segments,

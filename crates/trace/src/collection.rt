@@ -20,8 +20,7 @@ impl Memory<'_> {
     {
         let words = self.words.len();
         words % 256 == 0
-            && 1024 <= words
-            && words <= 65536
+            && (1024..=65536).contains(&words)
             && words <= F::GREATEST_ADDRESS as usize + 1
             && self.marks.len() == words / 32
             && self.greys.len() == words / 32
@@ -41,7 +40,8 @@ fn tally(moved: u32, marks: &mut [u32], greys: &mut [u32]) -> u32
 }
 
 impl<F: Format> Tracer<'_, F> {
-    // Traces what is condemned, sweeps it, and clears the boards.
+    // Traces what is condemned, sweeps it, and clears the boards. The slices of the memory come one by one,
+    // since the check does not cover a heap that is made of them where they lie.
     fn perform(
         &self,
         arena: &mut Arena,
@@ -77,6 +77,7 @@ impl Arena {
         ensures words { words.new ≡ all_buffers_closed (F.Format.meaning format.now) self.old.buffers words.old }
         ensures arena { self.new ≡ unbuffered self.old }
     {
+        // Not by `close` of each: with `iter_mut` what the buffers are then was tried, and stayed open.
         for buffer in &self.buffers {
             pad_part(format, words, buffer.init, buffer.limit);
         }
@@ -115,7 +116,7 @@ impl Arena {
     }
 
     // Collects a set of pools, bit p for pool p. The answer is 65,536 times the objects moved plus the
-    // objects kept in place.
+    // objects kept in place: one word, as a call of the store answers.
     pub fn collect<F: Format>(
         &mut self,
         format: &F,

@@ -6,12 +6,13 @@ ghost use Rattle.trace.specs.Traces.{rest, by_room, by_owner, sought, by_head, f
 ghost use Rattle.trace.specs.Lent.{contents};
 
 use crate::heap::Heap;
-use crate::state::{Class, Plan, Trace, Tracer};
+use crate::state::{Class, Plan, Tracer};
 use arena::is_set;
 use format::{Format, Head};
 
 // What becomes of the object at a reference: a value and no closure, since what is decided is half of
-// what the contract of `fix` says.
+// what the contract of `fix` says. A pool is its number here, as in the definitions, and not a type of numbers
+// below 8, which each of them would have to take apart.
 #[derive(Clone, Copy, PartialEq, Eq, Debug)]
 pub(crate) enum Fate {
     Stay,
@@ -29,18 +30,19 @@ pub(crate) fn rest_of(at: u32) -> usize
     ((256 - at % 256) % 256) as usize
 }
 
-impl Trace {
+impl Heap<'_> {
     // Where an object of an AMC pool goes: to the pool's target, to a fresh segment, or nowhere.
-    fn find_room(&self, len: usize, pool: u8, size: usize) -> Fate
+    fn find_room(&self, pool: u8, size: usize) -> Fate
         requires { (pool < 8) × (size ≤ 256) }
-        ensures which { result ≡ by_room self.now len pool size }
-        ensures fits { Within len size result }
+        ensures which { result ≡ by_room self.now.state (length self.now.words.now) pool size }
+        ensures fits { Within (length self.now.words.now) size result }
     {
-        let at = self.targets[pool as usize];
+        let len = self.words.len();
+        let at = self.state.targets[pool as usize];
         if size <= rest_of(at) && at as usize + size <= len.min(65536) {
             return Fate::Copy { pool, size, to: at };
         }
-        match self.segments.lowest_free(len) {
+        match self.state.segments.lowest_free(len) {
             Some(segment) => Fate::Fresh {
                 pool,
                 size,
@@ -53,16 +55,16 @@ impl Trace {
 
 impl Plan {
     // What becomes of an object of so many words in a segment.
-    fn by_class(&self, trace: &Trace, len: usize, segment: u8, size: usize) -> Fate
+    fn by_class(&self, heap: &Heap<'_>, segment: u8, size: usize) -> Fate
         requires { size ≤ 256 }
-        ensures which { result ≡ by_owner self.now trace.now len size (owner_of trace.now.segments segment) }
-        ensures fits { Within len size result }
+        ensures which { result ≡ by_owner self.now heap.now.state (length heap.now.words.now) size (owner_of heap.now.state.segments segment) }
+        ensures fits { Within (length heap.now.words.now) size result }
     {
-        let Some(pool) = trace.segments.owner(segment) else {
+        let Some(pool) = heap.state.segments.owner(segment) else {
             return Fate::Stay;
         };
         match self.class(pool) {
-            Some(Class::Amc) => trace.find_room(len, pool, size),
+            Some(Class::Amc) => heap.find_room(pool, size),
             Some(Class::Ams) => Fate::Grey,
             Some(Class::Lo) => Fate::Mark,
             None => Fate::Stay,
@@ -79,17 +81,17 @@ impl Plan {
 }
 
 impl<F: Format> Tracer<'_, F> {
-    fn by_thing(&self, trace: &Trace, len: usize, a: usize, head: Head) -> Fate
+    fn by_thing(&self, heap: &Heap<'_>, a: usize, head: Head) -> Fate
         requires { (a < 65536) × (extent (F.Format.meaning self.now.format.now) head ≤ 256) }
-        ensures which { result ≡ by_head (F.Format.meaning self.now.format.now) self.now.plan.now trace.now len a head }
-        ensures fits { Within len (extent (F.Format.meaning self.now.format.now) head) result }
+        ensures which { result ≡ by_head (F.Format.meaning self.now.format.now) self.now.plan.now heap.now.state (length heap.now.words.now) a head }
+        ensures fits { Within (length heap.now.words.now) (extent (F.Format.meaning self.now.format.now) head) result }
     {
         match head {
             Head::Nothing | Head::Padding { .. } => Fate::Stay,
             Head::Forwarded { to, .. } => Fate::Gone(to),
             Head::Object(shape) => {
                 self.plan
-                    .by_class(trace, len, (a / 256) as u8, self.format.size(shape))
+                    .by_class(heap, (a / 256) as u8, self.format.size(shape))
             }
         }
     }
@@ -98,10 +100,9 @@ impl<F: Format> Tracer<'_, F> {
         ensures which { result ≡ fate_of (F.Format.meaning self.now.format.now) self.now.plan.now (contents heap.now) a }
         ensures fits { Bounded (length heap.now.words.now) a result }
     {
-        let len = heap.words.len();
-        if !self.plan.is_sought(len, heap.marks, a) {
+        if !self.plan.is_sought(heap.words.len(), heap.marks, a) {
             return Fate::Stay;
         }
-        self.by_thing(&heap.state, len, a, self.head_at(heap, a))
+        self.by_thing(heap, a, self.head_at(heap, a))
     }
 }

@@ -16,7 +16,7 @@ pub struct Memory<'a> {
 }
 
 // What a trace changes: its state, the words, and the boards of what is marked and what is grey. It has no
-// `Memory` in it, since the check doesn't cover a slice that is lent on out of a field of a field.
+// `Memory` in it, since the check does not cover a slice that is lent on out of a field of a field.
 #[derive(Drop)]
 pub struct Heap<'a> {
     pub state: Trace,

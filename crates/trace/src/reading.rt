@@ -20,17 +20,11 @@ impl<F: Format> Tracer<'_, F> {
     }
 
     // Slot i of the object at a.
-    pub(crate) fn slot_at(
-        &self,
-        heap: &Heap<'_>,
-        a: usize,
-        size: usize,
-        shape: Shape,
-        i: u8,
-    ) -> Slot
-        requires { a + size ≤ length heap.now.words.now }
-        ensures { result ≡ (F.Format.meaning self.now.format.now).slot shape (part a size heap.now.words.now) i }
+    pub(crate) fn slot_at(&self, heap: &Heap<'_>, a: usize, shape: Shape, i: u8) -> Slot
+        requires { a + (F.Format.meaning self.now.format.now).size shape ≤ length heap.now.words.now }
+        ensures { result ≡ (F.Format.meaning self.now.format.now).slot shape (part a ((F.Format.meaning self.now.format.now).size shape) heap.now.words.now) i }
     {
+        let size = self.format.size(shape);
         self.format.slot(&heap.words[a..a + size], shape, i)
     }
 

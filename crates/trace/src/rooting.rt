@@ -46,6 +46,7 @@ impl Plan {
     pub(crate) fn condemned_zones(&self, segments: &Segments) -> u32
         ensures { result ≡ all_zones self.now segments.now }
     {
+        // A loop, since of a fold the check does not know what its closure did at each segment.
         let mut zones = 0;
         for s in 0..256usize {
             zones |= self.condemned_zone(segments, s as u8);
@@ -72,7 +73,7 @@ impl<F: Format> Tracer<'_, F> {
         requires { (base ≤ limit) × (limit ≤ length heap.now.words.now) }
         ensures { result ≡ pointed_in (F.Format.meaning self.now.format.now) heap.now.words.now heap.now.marks.now base limit word }
     {
-        // By a cursor, since where a thing ends is known once it was looked at.
+        // By a cursor: an iterator would serve this walk alone, since the other two write what they go over.
         let mut at = base;
         while at < limit {
             let end = self.end_at(heap, at, limit);

@@ -1,4 +1,5 @@
-// Scanning objects: fixing each of their references.
+// Scanning objects: fixing each of their references. That an object's words lie in the arena is asked by each
+// function and not of a type, since the arena's length is the heap's.
 ghost use Rattle.std.specs.Prelude.{◌≡◌, ◌+◌, ◌≤◌, length};
 ghost use Rattle.trace.specs.Traces.{slot_fixed, slots_fixed, scanned, turned, rounded};
 ghost use Rattle.trace.specs.Lent.{contents, HeapStaysLent};
@@ -10,27 +11,27 @@ use format::{Format, Head, Shape, Slot};
 
 impl<F: Format> Tracer<'_, F> {
     // Fixes slot i of the object at a, if it holds a reference. A reference that stays is not written.
-    fn fix_slot(&self, heap: &mut Heap<'_>, a: usize, size: usize, shape: Shape, i: u8)
-        requires { a + size ≤ length heap.old.words.now }
-        ensures after { contents heap.new ≡ slot_fixed (F.Format.meaning self.now.format.now) self.now.plan.now (contents heap.old) a size shape i }
+    fn fix_slot(&self, heap: &mut Heap<'_>, a: usize, shape: Shape, i: u8)
+        requires { a + (F.Format.meaning self.now.format.now).size shape ≤ length heap.old.words.now }
+        ensures after { contents heap.new ≡ slot_fixed (F.Format.meaning self.now.format.now) self.now.plan.now (contents heap.old) a ((F.Format.meaning self.now.format.now).size shape) shape i }
         ensures lent { HeapStaysLent heap.old heap.new }
     {
-        if let Slot::Reference(old) = self.slot_at(heap, a, size, shape, i) {
+        if let Slot::Reference(old) = self.slot_at(heap, a, shape, i) {
             let new = self.fix(heap, old);
             if new != old {
-                let own = &mut heap.words[a..a + size];
+                let own = &mut heap.words[a..a + self.format.size(shape)];
                 self.format.write_slot(own, shape, i, Slot::Reference(new));
             }
         }
     }
 
-    fn fix_slots(&self, heap: &mut Heap<'_>, a: usize, size: usize, shape: Shape)
-        requires { a + size ≤ length heap.old.words.now }
-        ensures after { contents heap.new ≡ slots_fixed (F.Format.meaning self.now.format.now) self.now.plan.now (contents heap.old) a size shape shape.n }
+    fn fix_slots(&self, heap: &mut Heap<'_>, a: usize, shape: Shape)
+        requires { a + (F.Format.meaning self.now.format.now).size shape ≤ length heap.old.words.now }
+        ensures after { contents heap.new ≡ slots_fixed (F.Format.meaning self.now.format.now) self.now.plan.now (contents heap.old) a ((F.Format.meaning self.now.format.now).size shape) shape shape.n }
         ensures lent { HeapStaysLent heap.old heap.new }
     {
         for i in 0..shape.n {
-            self.fix_slot(heap, a, size, shape, i);
+            self.fix_slot(heap, a, shape, i);
         }
     }
 
@@ -39,14 +40,11 @@ impl<F: Format> Tracer<'_, F> {
         ensures after { contents heap.new ≡ scanned (F.Format.meaning self.now.format.now) self.now.plan.now (contents heap.old) a }
         ensures lent { HeapStaysLent heap.old heap.new }
     {
-        if a > 65535 {
-            return;
-        }
-        if heap.words.len() < a / 256 * 256 + 256 {
+        if a > 65535 || heap.words.len() < a / 256 * 256 + 256 {
             return;
         }
         if let Head::Object(shape) = self.head_at(heap, a) {
-            self.fix_slots(heap, a, self.format.size(shape), shape);
+            self.fix_slots(heap, a, shape);
         }
     }
 

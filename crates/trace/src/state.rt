@@ -23,7 +23,6 @@ pub struct Plan {
 }
 
 // A trace of every object format: its format, and the plan that it keeps to.
-#[derive(Drop)]
 #[derive_where(Clone, Copy)]
 pub struct Tracer<'a, F> {
     pub format: &'a F,
@@ -49,7 +48,7 @@ impl Plan {
         self.classes.get(pool as usize).copied()
     }
 
-    // The class of the pool whose a segment is.
+    // The class of the pool that a segment belongs to.
     pub(crate) fn class_of(&self, owner: Owner) -> Option<Class>
         ensures { result ≡ class_of_owner self.now.classes owner }
     {
@@ -61,7 +60,7 @@ impl Plan {
         ensures which { result ≡ nails self.now len a }
         ensures fits { result ≡ true → (a < 65536) × (a / 256 * 256 + 256 ≤ len) }
     {
-        256 <= a && a <= 65535 && a / 256 * 256 + 256 <= len && self.condemned[a / 256]
+        (256..=65535).contains(&a) && a / 256 * 256 + 256 <= len && self.condemned[a / 256]
     }
 }
 

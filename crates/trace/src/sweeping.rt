@@ -7,7 +7,9 @@ ghost use Rattle.trace.specs.Traces.{loose, stand_by, stood, row, swept_row, swe
 use arena::{Segments, is_set, pad_part};
 use format::{Format, Head, look};
 
-// The sweep is lent words and marks alone, and no heap: it has no use for grey objects or targets.
+// The sweep is lent words and marks alone, and no heap: it has no use for grey objects or targets. Three
+// functions take them with the format, too few for a type of their own. A row goes from `base` to `limit` here
+// and in the other walks, as in the definitions: with 256 put in for the difference none of them proves alone.
 
 // Where a thing of a row ends, and whether it is a marked object, which is kept.
 #[derive(Clone, Copy, PartialEq, Eq, Debug)]
@@ -36,8 +38,7 @@ fn stand_of<F: Format>(format: &F, marks: &[u32], at: usize, limit: usize, head:
             end: at + format.size(shape),
             is_kept: is_set(marks, at),
         },
-        Head::Forwarded { size, .. } => loose(at + size),
-        Head::Padding { size } => loose(at + size),
+        Head::Forwarded { size, .. } | Head::Padding { size } => loose(at + size),
     }
 }
 

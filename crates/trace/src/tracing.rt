@@ -3,7 +3,6 @@ ghost use Rattle.std.specs.Prelude.{◌≡◌};
 ghost use Rattle.trace.specs.Collections.{rooted, traced};
 ghost use Rattle.trace.specs.Lent.{contents, HeapStaysLent};
 
-use crate::collecting::close_targets;
 use crate::heap::Heap;
 use crate::state::Tracer;
 use format::Format;
@@ -11,6 +10,7 @@ use format::Format;
 impl<F: Format> Tracer<'_, F> {
     // Nails what ambiguous words point into, fixes the registers and what is not condemned, scans while
     // something is grey, and pads the rests of the targets.
+    #[tactic(auto, unfolding(crate::specs::Collections::traced))]
     pub(crate) fn trace_roots(
         &self,
         heap: &mut Heap<'_>,
@@ -25,6 +25,6 @@ impl<F: Format> Tracer<'_, F> {
         self.fix_registers(heap, registers);
         self.scan_segments(heap, &used);
         self.rounds(heap, heap.words.len());
-        close_targets(self.format, &heap.state, heap.words);
+        self.close_targets(heap);
     }
 }

@@ -80,6 +80,7 @@ impl<'a, R: Abort, F: Format, const N: usize> Store<'a, R, F, N> {
         assert!(self.rt; size <= 128 && references.len() < size);
         assert!(self.rt; at + size <= N);
         let shape = self.shape(references.len() as u8, (size - 1) as u8);
+        // First a slice of all: the check lends no part of an array of `N` words.
         let words = &mut self.words[..];
         let own = &mut words[at..at + size];
         make(self.format, own, shape)?;
@@ -164,7 +165,7 @@ impl<'a, R: Abort, F: Format, const N: usize> Store<'a, R, F, N> {
         assert_eq!(self.rt; &self.arena.registers[..registers.len()], registers);
     }
 
-    // The pool whose a segment is, if it is not free.
+    // The pool that a segment belongs to, if it is not free.
     pub fn check_owner(&self, segment: u8, owner: Option<u8>) {
         assert_eq!(self.rt;
             self.arena.segments.owner(segment),
@@ -177,6 +178,7 @@ impl<'a, R: Abort, F: Format, const N: usize> Store<'a, R, F, N> {
     fn segment(&self, segment: u8) -> &[u32] {
         let base = segment as usize * 256;
         assert!(self.rt; base + 256 <= N);
+        // As in `put`, first a slice of all.
         let words = &self.words[..];
         &words[base..base + 256]
     }

@@ -5,7 +5,6 @@ use format::{Format, Refusal};
 use formats::{Counted, Tagged};
 use std::process::Abort;
 use std::test::Fail;
-use trace::Arena;
 
 // How many words there are, how many of the mark board, and how many of the grey board.
 type Lengths = (usize, usize, usize);
@@ -21,20 +20,15 @@ impl<R: Abort, F: Format> Store<'_, R, F, 1280> {
         let mut greys = [3; 64];
         self.arena.segments.give(1, 0);
         self.arena.registers[0] = 256;
-        let Arena {
-            buffers,
-            history,
-            ..
-        } = self.arena;
+        let before = self.arena;
         let answer = self.collect_part(len, &mut marks[..m], &mut greys[..g], 255);
         assert_eq!(self.rt; answer.map_err(Refusal::number), Err(number), "{lengths:?}");
         check_all(self.rt, "words", &self.words, 7);
         check_all(self.rt, "marks", &marks, 5);
         check_all(self.rt, "greys", &greys, 3);
+        assert_eq!(self.rt; self.arena, before, "{lengths:?}");
         self.check_owner(1, Some(0));
         self.check_registers(&[256]);
-        assert_eq!(self.rt; self.arena.buffers, buffers, "{lengths:?}");
-        assert_eq!(self.rt; self.arena.history, history, "{lengths:?}");
     }
 
     // All of memory holds one word, and so does each board; a pool of each class has a segment.

@@ -154,8 +154,8 @@ fn check_history(mut store: Store<impl Abort, impl Format, 1024>) -> Result<(), 
     kept.enter(512);
     store.check_collection(5, 65_537);
     let history = &store.arena.history;
-    assert_eq!(store.rt; moved.stale(history), true);
-    assert_eq!(store.rt; kept.stale(history), false);
+    assert!(store.rt; moved.stale(history));
+    assert!(store.rt; !kept.stale(history));
     assert_eq!(store.rt; history.epoch(), 1);
     store.check_registers(&[768, 512]);
     Ok(())

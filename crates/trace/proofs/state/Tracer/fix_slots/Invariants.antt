@@ -5,5 +5,5 @@ use Rattle.trace.proofs.state.Tracer.fix_slots.Given as goal
 
 abbrev pub invariant-loop-i : goal.invariant-loop-i
 invariant-loop-i g l =
-    (contents l.heap ≡ slots_fixed (g.F.Format.meaning l.self.format.now) l.self.plan.now (contents l.initial.heap) l.a l.size l.shape l.i)
+    (contents l.heap ≡ slots_fixed (g.F.Format.meaning l.self.format.now) l.self.plan.now (contents l.initial.heap) l.a ((g.F.Format.meaning l.self.format.now).size l.shape) l.shape l.i)
     × HeapStaysLent l.initial.heap l.heap
