@@ -36,7 +36,7 @@ pub struct Bench<'a, R, F> {
     pub format: &'a F,
 }
 
-pub fn counted<R: Abort>(rt: &R) -> Bench<'_, R, Counted> {
+pub(crate) fn counted<R: Abort>(rt: &R) -> Bench<'_, R, Counted> {
     Bench {
         rt,
         name: "counted",
@@ -44,7 +44,7 @@ pub fn counted<R: Abort>(rt: &R) -> Bench<'_, R, Counted> {
     }
 }
 
-pub fn tagged<R: Abort>(rt: &R) -> Bench<'_, R, Tagged> {
+pub(crate) fn tagged<R: Abort>(rt: &R) -> Bench<'_, R, Tagged> {
     Bench {
         rt,
         name: "tagged",
@@ -82,7 +82,7 @@ impl<R: Abort, F: Format> Bench<'_, R, F> {
     }
 
     // Lays things one behind the other, from a place on.
-    pub fn lay(&self, words: &mut [u32], from: usize, things: &[Thing]) -> Result<(), Fail> {
+    pub(crate) fn lay(&self, words: &mut [u32], from: usize, things: &[Thing]) -> Result<(), Fail> {
         let mut place = from;
         for &thing in things {
             let size = thing.size();

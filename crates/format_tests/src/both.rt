@@ -7,7 +7,7 @@ use format::Slot::{Number, Reference};
 use std::process::Abort;
 
 impl<R: Abort, F: Headers> Bench<'_, R, F> {
-    pub fn common_headers(&self) {
+    pub(crate) fn common_headers(&self) {
         self.check_headers(&[
             // no thing
             (NoThing(0), Head::Nothing),
@@ -48,7 +48,7 @@ impl<R: Abort, F: Headers> Bench<'_, R, F> {
         ]);
     }
 
-    pub fn common_lengths(&self) {
+    pub(crate) fn common_lengths(&self) {
         self.check_lengths(&[
             (IsObject(0, 1), 1, object(0, 0)),
             (IsObject(0, 128), 128, object(0, 127)),
@@ -59,7 +59,7 @@ impl<R: Abort, F: Headers> Bench<'_, R, F> {
         ]);
     }
 
-    pub fn common_makes_and_pads(&self) {
+    pub(crate) fn common_makes_and_pads(&self) {
         self.check_fresh(&[
             (1, Make(0, 0), Ok(IsObject(0, 1))),
             (4, Make(0, 3), Ok(IsObject(0, 4))),
@@ -82,7 +82,7 @@ impl<R: Abort, F: Headers> Bench<'_, R, F> {
     }
 
     // The pair is an object of two slots, of which the first may refer.
-    pub fn common_sets_and_forwards(&self, pair: Header) {
+    pub(crate) fn common_sets_and_forwards(&self, pair: Header) {
         let pair = F::word(pair);
         let gone = F::word(IsForwarded(3, 256));
         let far = F::word(IsForwarded(3, 65_535));
@@ -114,7 +114,7 @@ impl<R: Abort, F: Headers> Bench<'_, R, F> {
     }
 
     // The bit is one that the pair's header does not use.
-    pub fn common_no_object(&self, pair: Header, unused: u32) {
+    pub(crate) fn common_no_object(&self, pair: Header, unused: u32) {
         let pair = F::word(pair);
         let gone = F::word(IsForwarded(3, 256));
         let blank = F::word(IsPadding(3));

@@ -10,15 +10,15 @@ const OLD: u32 = 0xaaaa_aaaa;
 
 // ---- heads
 
-pub fn object(layout: u8, n: u8) -> Head {
+pub(crate) fn object(layout: u8, n: u8) -> Head {
     Head::Object(Shape { layout, n })
 }
 
-pub fn forwarded(size: usize, to: u32) -> Head {
+pub(crate) fn forwarded(size: usize, to: u32) -> Head {
     Head::Forwarded { size, to }
 }
 
-pub fn padding(size: usize) -> Head {
+pub(crate) fn padding(size: usize) -> Head {
     Head::Padding { size }
 }
 
@@ -55,7 +55,7 @@ pub struct Bench<'a, R, F> {
 }
 
 impl<'a, R: Abort, F: Headers> Bench<'a, R, F> {
-    pub fn new(rt: &'a R, format: &'a F) -> Bench<'a, R, F> {
+    pub(crate) fn new(rt: &'a R, format: &'a F) -> Bench<'a, R, F> {
         Bench { rt, format }
     }
 
@@ -66,7 +66,7 @@ impl<'a, R: Abort, F: Headers> Bench<'a, R, F> {
     }
 
     // Each row is a header, and what it says with 510 zeros after it.
-    pub fn check_headers(&self, rows: &[(Header, Head)]) {
+    pub(crate) fn check_headers(&self, rows: &[(Header, Head)]) {
         for &(header, head) in rows {
             let word = F::word(header);
             assert_eq!(self.rt; self.look_at(word), head, "header {word:#x}");
@@ -74,7 +74,7 @@ impl<'a, R: Abort, F: Headers> Bench<'a, R, F> {
     }
 
     // Each row is a header, what it says, and its unused bits, any of which makes it say nothing.
-    pub fn check_unused_bits(&self, rows: &[(Header, Head, u32)]) {
+    pub(crate) fn check_unused_bits(&self, rows: &[(Header, Head, u32)]) {
         for &(header, head, unused) in rows {
             let header = F::word(header);
             assert_eq!(self.rt; self.look_at(header), head, "header {header:#x}");
@@ -90,7 +90,7 @@ impl<'a, R: Abort, F: Headers> Bench<'a, R, F> {
 
     // Each row is the header of a thing of so many words, the others 0. It reads so from as many words
     // and from one more, and as nothing from one less.
-    pub fn check_lengths(&self, rows: &[(Header, usize, Head)]) {
+    pub(crate) fn check_lengths(&self, rows: &[(Header, usize, Head)]) {
         for &(header, size, head) in rows {
             assert!(self.rt; 1 <= size && size <= 256);
             let mut words = [0; 257];
@@ -109,7 +109,7 @@ impl<'a, R: Abort, F: Headers> Bench<'a, R, F> {
     // ---- slots
 
     // Each row is words, what they read as, and the slots of that.
-    pub fn check_readings(&self, rows: &[(&[u32], Head, &[Slot])]) {
+    pub(crate) fn check_readings(&self, rows: &[(&[u32], Head, &[Slot])]) {
         for (k, &(words, head, slots)) in rows.iter().enumerate() {
             assert_eq!(self.rt; read(self.format, words), head, "row {k}");
             if let Head::Object(shape) = head {
@@ -136,7 +136,7 @@ impl<'a, R: Abort, F: Headers> Bench<'a, R, F> {
 
     // Each row is how many words there are, what is written over them, and the header that they then
     // have, with 0 in every other word; or the number by which it is refused, and then they stay.
-    pub fn check_fresh(&self, rows: &[(usize, Write, Result<Header, u8>)]) {
+    pub(crate) fn check_fresh(&self, rows: &[(usize, Write, Result<Header, u8>)]) {
         for (k, &(len, write, answer)) in rows.iter().enumerate() {
             assert!(self.rt; len <= 260);
             let mut words = [OLD; 260];
@@ -155,7 +155,7 @@ impl<'a, R: Abort, F: Headers> Bench<'a, R, F> {
 
     // Each row is what is written over an object's words, and the words after; or the number by which
     // it is refused, and then they stay.
-    pub fn check_changes<const N: usize>(
+    pub(crate) fn check_changes<const N: usize>(
         &self,
         before: [u32; N],
         rows: &[(Write, Result<[u32; N], u8>)],
@@ -173,7 +173,7 @@ impl<'a, R: Abort, F: Headers> Bench<'a, R, F> {
 
     // Words that are not one object's, no word more or less, are neither set nor forwarded, whatever
     // the slot, the value or the address.
-    pub fn check_no_object(&self, rows: &[&[u32]]) {
+    pub(crate) fn check_no_object(&self, rows: &[&[u32]]) {
         let writes = [
             Write::Set(0, Slot::Reference(0)),
             Write::Set(255, Slot::Reference(65_536)),
@@ -194,7 +194,7 @@ impl<'a, R: Abort, F: Headers> Bench<'a, R, F> {
 
     // The object of 127 slots, with the word of the number 5, and its header once it has been
     // forwarded to 65,535.
-    pub fn check_greatest(&self, five: u32) -> Result<(), Fail> {
+    pub(crate) fn check_greatest(&self, five: u32) -> Result<(), Fail> {
         let mut own = [OLD; 128];
         let mut after = [0; 128];
         make(self.format, &mut own, Shape { layout: 0, n: 127 })?;

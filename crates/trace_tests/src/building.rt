@@ -36,12 +36,12 @@ macro_rules! in_each_format {
 
 pub(crate) use in_each_format;
 
-pub fn padding(size: usize) -> Head {
+pub(crate) fn padding(size: usize) -> Head {
     Head::Padding { size }
 }
 
 // Every word is the same.
-pub fn check_all(rt: &impl Abort, name: &str, words: &[u32], all: u32) {
+pub(crate) fn check_all(rt: &impl Abort, name: &str, words: &[u32], all: u32) {
     for &word in words {
         assert_eq!(rt; word, all, "{name}");
     }
@@ -51,7 +51,7 @@ impl<'a, R: Abort, F: Format, const N: usize> Store<'a, R, F, N> {
     // ---- building
 
     // Every segment is free, and every word is 0.
-    pub fn new(rt: &'a R, format: &'a F) -> Store<'a, R, F, N> {
+    pub(crate) fn new(rt: &'a R, format: &'a F) -> Store<'a, R, F, N> {
         Store {
             rt,
             format,
@@ -75,7 +75,12 @@ impl<'a, R: Abort, F: Format, const N: usize> Store<'a, R, F, N> {
 
     // Makes an object of so many words. Its first slots hold references; its last slot, if there is
     // one more, the number of its address.
-    pub fn put(&mut self, address: u32, size: usize, references: &[u32]) -> Result<(), Fail> {
+    pub(crate) fn put(
+        &mut self,
+        address: u32,
+        size: usize,
+        references: &[u32],
+    ) -> Result<(), Fail> {
         let at = address as usize;
         assert!(self.rt; size <= 128 && references.len() < size);
         assert!(self.rt; at + size <= N);
@@ -95,7 +100,7 @@ impl<'a, R: Abort, F: Format, const N: usize> Store<'a, R, F, N> {
 
     // Makes objects without references, each of an address and so many words, in registers 0, 1 and
     // so on.
-    pub fn put_in_registers(&mut self, objects: &[(u32, usize)]) -> Result<(), Fail> {
+    pub(crate) fn put_in_registers(&mut self, objects: &[(u32, usize)]) -> Result<(), Fail> {
         for &(address, size) in objects {
             self.put(address, size, &[])?;
         }
@@ -106,7 +111,7 @@ impl<'a, R: Abort, F: Format, const N: usize> Store<'a, R, F, N> {
     }
 
     // Gives a segment to a pool, and pads it behind its first words.
-    pub fn give(&mut self, segment: u8, pool: u8, used: usize) {
+    pub(crate) fn give(&mut self, segment: u8, pool: u8, used: usize) {
         let base = segment as usize * 256;
         self.arena.segments.give(segment, pool);
         pad_part(
@@ -120,7 +125,7 @@ impl<'a, R: Abort, F: Format, const N: usize> Store<'a, R, F, N> {
     // ---- collecting
 
     // Collects over the first words alone.
-    pub fn collect_part(
+    pub(crate) fn collect_part(
         &mut self,
         len: usize,
         marks: &mut [u32],
@@ -137,7 +142,7 @@ impl<'a, R: Abort, F: Format, const N: usize> Store<'a, R, F, N> {
     }
 
     // Collects over boards that hold one word, and looks that they are clear then.
-    pub fn collect_over(&mut self, stray: u32, pools: u8) -> Result<u32, Refusal> {
+    pub(crate) fn collect_over(&mut self, stray: u32, pools: u8) -> Result<u32, Refusal> {
         let n = N / 32;
         assert!(self.rt; n <= 64);
         let mut marks = [stray; 64];
@@ -149,24 +154,24 @@ impl<'a, R: Abort, F: Format, const N: usize> Store<'a, R, F, N> {
     }
 
     // What a collection over clear boards answers.
-    pub fn check_collection(&mut self, pools: u8, value: u32) {
+    pub(crate) fn check_collection(&mut self, pools: u8, value: u32) {
         assert_eq!(self.rt; self.collect_over(0, pools), Ok(value));
     }
 
     // ---- looking
 
-    pub fn object(&self, references: u8, n: u8) -> Head {
+    pub(crate) fn object(&self, references: u8, n: u8) -> Head {
         Head::Object(self.shape(references, n))
     }
 
     // What the first registers hold.
-    pub fn check_registers(&self, registers: &[u32]) {
+    pub(crate) fn check_registers(&self, registers: &[u32]) {
         assert!(self.rt; registers.len() <= 16);
         assert_eq!(self.rt; &self.arena.registers[..registers.len()], registers);
     }
 
     // The pool that a segment belongs to, if it is not free.
-    pub fn check_owner(&self, segment: u8, owner: Option<u8>) {
+    pub(crate) fn check_owner(&self, segment: u8, owner: Option<u8>) {
         assert_eq!(self.rt;
             self.arena.segments.owner(segment),
             owner,
@@ -184,13 +189,13 @@ impl<'a, R: Abort, F: Format, const N: usize> Store<'a, R, F, N> {
     }
 
     // A segment is free, and all its words are 0.
-    pub fn check_free(&self, segment: u8) {
+    pub(crate) fn check_free(&self, segment: u8) {
         self.check_owner(segment, None);
         check_all(self.rt, "free words", self.segment(segment), 0);
     }
 
     // What stands in a segment, to its end.
-    pub fn check_row(&self, segment: u8, row: &[Head]) {
+    pub(crate) fn check_row(&self, segment: u8, row: &[Head]) {
         let mut rest = self.segment(segment);
         for &head in row {
             let left = rest.len();
@@ -215,7 +220,7 @@ impl<'a, R: Abort, F: Format, const N: usize> Store<'a, R, F, N> {
         }
     }
 
-    pub fn check_slot(&self, address: u32, i: u8, slot: Slot) {
+    pub(crate) fn check_slot(&self, address: u32, i: u8, slot: Slot) {
         assert_eq!(self.rt; self.slot(address, i), Some(slot), "slot {i} at {address}");
     }
 }
