@@ -12,8 +12,8 @@ pub fn holds<F: Format>(format: &F, shape: Shape, i: u8, value: Slot) -> bool
 {
     let kind = format.kind(shape, i);
     match value {
-        Slot::Reference(address) => kind.may_refer() && address <= F::GREATEST_ADDRESS,
-        Slot::Number(number) => kind.may_count() && number <= F::GREATEST_NUMBER,
+        Slot::Reference(address) => kind.may_refer() && address <= format.address_limit(),
+        Slot::Number(number) => kind.may_count() && number <= format.number_limit(),
     }
 }
 
@@ -21,7 +21,7 @@ pub fn holds<F: Format>(format: &F, shape: Shape, i: u8, value: Slot) -> bool
 pub(crate) fn is_place<F: Format>(format: &F, address: u32) -> bool
     ensures { result ≡ is_place (F.Format.meaning format.now) address }
 {
-    (SMALLEST_ADDRESS..=F::GREATEST_ADDRESS).contains(&address)
+    (SMALLEST_ADDRESS..=format.address_limit()).contains(&address)
 }
 
 // How many words a thing takes.

@@ -1,6 +1,5 @@
 // Formats of a header word and a word for each slot after it: a coding of single words is a format.
-ghost use Rattle.std.specs.Prelude.{◌≡◌, ℕ, refl};
-ghost use Rattle.std.proofs.Common.{sym};
+ghost use Rattle.std.specs.Prelude.{◌≡◌, ℕ};
 ghost use Rattle.format.specs.Words.{Coding, coded};
 ghost use Rattle.format.specs.Laws.{Lawful};
 
@@ -64,9 +63,15 @@ impl<C: WordCoding> Format for C {
 
     ghost meaning = { λ _. coded C.coding };
 
-    ghost limits = { λ _. (sym C.greatest, refl) };
-
     ghost lawful = { λ _. C.lawful };
+
+    fn number_limit(&self) -> u32 {
+        C::GREATEST_NUMBER
+    }
+
+    fn address_limit(&self) -> u32 {
+        Self::GREATEST_ADDRESS
+    }
 
     fn admits(&self, shape: Shape) -> bool {
         C::admits(shape)

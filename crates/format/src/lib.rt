@@ -2,7 +2,7 @@
 #![tactic(auto)]
 
 mod checks;
-mod codings;
+pub mod codings;
 mod reading;
 mod refusals;
 mod things;
@@ -10,7 +10,6 @@ mod words;
 mod writing;
 
 pub use checks::{extent, holds};
-pub use codings::WordCoding;
 pub use reading::{look, read};
 pub use refusals::Refusal;
 pub use things::{Format, Head, Kind, Shape, Slot};

@@ -80,6 +80,14 @@ pub trait Format {
 
     ghost meaning: { Self → Meaning };
 
+    // The greatest number and address of this format, as the value checks use them. A format that is always
+    // the same one answers its constants; one that is of several, as its value says, answers those of that one.
+    fn number_limit(&self) -> u32
+        ensures { result ≡ (meaning self.now).greatest_number };
+
+    fn address_limit(&self) -> u32
+        ensures { result ≡ (meaning self.now).greatest_address };
+
     // Whether there are objects of this shape.
     fn admits(&self, shape: Shape) -> bool
         ensures { result ≡ (meaning self.now).admits shape };
@@ -115,8 +123,6 @@ pub trait Format {
     // Makes the words one padding.
     fn write_padding(&self, own: &mut [u32])
         ensures { own.new ≡ (meaning self.now).padded own.old };
-
-    ghost limits: { (f : Self) → ((meaning f).greatest_number ≡ GREATEST_NUMBER) × ((meaning f).greatest_address ≡ GREATEST_ADDRESS) };
 
     ghost lawful: { (f : Self) → Lawful (meaning f) };
 }

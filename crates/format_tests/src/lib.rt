@@ -1,5 +1,10 @@
-// Tests of the object formats: tables of words, of what they read as and of what a write makes of them.
+// Tests of the object formats: tables of words, of what they read as and of what a write makes of them; and
+// a format that is one of two, as its value says.
 #![tactic(auto)]
+
+mod chosen;
+
+pub use chosen::Chosen;
 
 #[cfg(test)]
 mod both;

@@ -3,7 +3,8 @@ ghost use Rattle.std.specs.Prelude.{refl};
 ghost use Rattle.formats.specs.Counted.{counted_coding};
 ghost use Rattle.formats.specs.Counts.{counted_lawful};
 
-use format::{Head, Kind, Shape, Slot, WordCoding};
+use format::codings::WordCoding;
+use format::{Head, Kind, Shape, Slot};
 
 #[derive(Clone, Copy)]
 pub struct Counted;

@@ -3,7 +3,8 @@ ghost use Rattle.std.specs.Prelude.{refl};
 ghost use Rattle.formats.specs.Tagged.{tagged_coding};
 ghost use Rattle.formats.specs.Tags.{tagged_lawful};
 
-use format::{Head, Kind, Shape, Slot, WordCoding};
+use format::codings::WordCoding;
+use format::{Head, Kind, Shape, Slot};
 
 #[derive(Clone, Copy)]
 pub struct Tagged;

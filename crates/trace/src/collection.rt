@@ -21,7 +21,7 @@ impl Memory<'_> {
         let words = self.words.len();
         words % 256 == 0
             && (1024..=65536).contains(&words)
-            && words <= F::GREATEST_ADDRESS as usize + 1
+            && words <= format.address_limit() as usize + 1
             && self.marks.len() == words / 32
             && self.greys.len() == words / 32
     }
