@@ -1,15 +1,15 @@
 -- Lemmas on digits and their number
-use Rattle.std.proofs.Common.{◌≡◌, ℕ, zero, suc, ◌+◌, ◌*◌, ◌^◌, ◌<◌, true, false, cond, ltb, List, [], ◌∷◌, ◌++◌, map, length, get_or, take, Some, None, Option, Ok, Err, option_and_then, sym, refl, ap, ◌∙◌, inl, inr, le-mul_of_pos_right, arith}
+use Rattle.std.proofs.Common.{◌≡◌, ℕ, zero, suc, ◌+◌, ◌*◌, ◌^◌, ◌<◌, min, true, false, ltb, List, [], ◌∷◌, ◌++◌, map, length, get_or, take, Ok, Err, refl, ap, ◌∙◌, inl, inr, le-mul_of_pos_right, arith}
 use Rattle.std.proofs.lemmas.Int.Digits.{number_push}
 use Rattle.std.proofs.lemmas.List.{map_push, take_more}
-use Rattle.std.proofs.lemmas.Bool.{and_from, and_left, and_right, and_parts, cases_lt, lt-ltb, le-ltb, cond-true, cond-false}
+use Rattle.std.proofs.lemmas.Bool.{and_from, and_left, and_right, and_parts, cases_lt, lt-ltb, cond-true, cond-false}
 use Rattle.std.specs.Int.Digits.{number_from_digits}
 use Rattle.wordtext.specs.declared.Problem.TheVariants.{NotANumber}
 use Rattle.wordtext.specs.Numbers.{digit_of, digits_only, numeral_value}
 
--- a number as 32 bits hold it
-abbrev pub held : ℕ → Option ℕ
-held n = cond (ltb n (2 ^ 32)) (Some n) None
+-- a number, held at the first that 32 bits do not hold
+abbrev pub held : ℕ → ℕ
+held n = min n (2 ^ 32)
 
 pub digits_push : (base : ℕ) (bs : List ℕ) (b : ℕ) → digits_only base bs ≡ true → ltb (digit_of b) base ≡ true → digits_only base (bs ++ b ∷ []) ≡ true
 digits_push base [] b p q = and_from (ltb (digit_of b) base) true q refl
@@ -17,24 +17,24 @@ digits_push base (x ∷ bs) b p q =
     let h = and_parts (ltb (digit_of x) base) (digits_only base bs) p in
     and_from (ltb (digit_of x) base) (digits_only base (bs ++ b ∷ [])) h.0 (digits_push base bs b h.1 q)
 
-digits_fail : (base : ℕ) (bs : List ℕ) (i : ℕ) → i < length bs → ltb (digit_of (get_or bs i 0)) base ≡ false → digits_only base bs ≡ false
+pub digits_fail : (base : ℕ) (bs : List ℕ) (i : ℕ) → i < length bs → ltb (digit_of (get_or bs i 0)) base ≡ false → digits_only base bs ≡ false
 digits_fail base [] i h e = absurd (omega arith)
 digits_fail base (b ∷ bs) zero h e = and_left (ltb (digit_of b) base) (digits_only base bs) e
 digits_fail base (b ∷ bs) (suc i) h e = and_right (ltb (digit_of b) base) (digits_only base bs) (digits_fail base bs i (omega arith) e)
 
 -- a held number takes one more digit as the number itself does
-pub held_more : (n base d : ℕ) → 0 < base → option_and_then (λ v. held (v * base + d)) (held n) ≡ held (n * base + d)
+pub held_more : (n base d : ℕ) → 0 < base → held (held n * base + d) ≡ held (n * base + d)
 held_more n base d pos =
     elim (cases_lt n (2 ^ 32)) [
-      | inl l ↦ rw (cond-true {A = Option ℕ} _ (Some n) None (lt-ltb n (2 ^ 32) l))
+      | inl l ↦ let e : min n (2 ^ 32) ≡ n = omega arith in rw e
       | inr g ↦
-          rw (cond-false {A = Option ℕ} _ (Some n) None (le-ltb n (2 ^ 32) g))
-          (sym (cond-false _ _ _ (le-ltb (n * base + d) (2 ^ 32) (omega (arith, le-mul_of_pos_right {m = base} n pos)))))
+          let e : min n (2 ^ 32) ≡ 2 ^ 32 = omega arith in
+          rw e (omega (arith, le-mul_of_pos_right {m = base} n pos, le-mul_of_pos_right {m = base} (2 ^ 32) pos))
     ]
 
 -- one more digit
-pub digit_more : (base : ℕ) (bs : List ℕ) (i d : ℕ) (v w : Option ℕ) → 0 < base → i < length bs → ltb (digit_of (get_or bs i 0)) base ≡ true → d ≡ digit_of (get_or bs i 0)
-    → digits_only base (take i bs) ≡ true → v ≡ held (number_from_digits base (map digit_of (take i bs))) → w ≡ option_and_then (λ x. held (x * base + d)) v
+pub digit_more : (base : ℕ) (bs : List ℕ) (i d v w : ℕ) → 0 < base → i < length bs → ltb (digit_of (get_or bs i 0)) base ≡ true → d ≡ digit_of (get_or bs i 0)
+    → digits_only base (take i bs) ≡ true → v ≡ held (number_from_digits base (map digit_of (take i bs))) → w ≡ held (v * base + d)
     → (digits_only base (take (i + 1) bs) ≡ true) × (w ≡ held (number_from_digits base (map digit_of (take (i + 1) bs))))
 digit_more base bs i d v w pos lt is worth only number more =
     let t = take_more bs i 0 lt in

@@ -12,6 +12,9 @@ ghost use Rattle.wordtext.specs.declared.Failure.TheVariants.{NoMemory};
 use std::alloc::{AllocFailed, Global};
 use std::fmt;
 
+// The first value that 32 bits do not hold.
+const LIMIT: u64 = 0x1_0000_0000;
+
 // Why a piece is no word: `TooLarge` where it is a number of 2^32 or more.
 #[derive(Clone, Copy, PartialEq, Eq, Debug)]
 pub enum Problem {
@@ -63,8 +66,9 @@ fn digit(byte: u8, base: u32) -> Option<u32>
     char::from(byte).to_digit(base)
 }
 
-// The number that digits of the base write. Once it is too large, the other bytes must still be digits.
-// `from_str_radix` takes a sign too, and stops at the digit that makes it too large.
+// The number that digits of the base write. Once it is past the limit, the other bytes must still be digits.
+// `from_str_radix` takes a sign too, and stops at the digit that makes it too large; an `Option<u32>` of checked
+// steps, in place of a number held at the limit, takes twice the instructions for each digit.
 #[tactic(auto, using(crate::proofs::Numerals::numeral_bad, std::proofs::lemmas::Grind::common_steps))]
 fn numeral(digits: &[u8], base: u32) -> Result<u32, Problem>
     requires low { 2 ≤ base }
@@ -74,12 +78,12 @@ fn numeral(digits: &[u8], base: u32) -> Result<u32, Problem>
     if digits.is_empty() {
         return Err(Problem::NotANumber);
     }
-    let mut value = Some(0u32);
+    let mut value: u64 = 0;
     for byte in digits {
         let digit = digit(*byte, base).ok_or(Problem::NotANumber)?;
-        value = value.and_then(|value| value.checked_mul(base)?.checked_add(digit));
+        value = (value * u64::from(base) + u64::from(digit)).min(LIMIT);
     }
-    value.ok_or(Problem::TooLarge)
+    u32::try_from(value).map_err(|_| Problem::TooLarge)
 }
 
 // The word that a piece without white space writes: decimal digits, or `0x` and hexadecimal digits.

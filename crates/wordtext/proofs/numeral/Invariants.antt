@@ -4,7 +4,7 @@ use Rattle.wordtext.specs.Numbers.{digit_of, digits_only}
 use Rattle.wordtext.proofs.Numerals.{held}
 use Rattle.wordtext.proofs.numeral.Given as goal
 
--- what was read are digits, and `value` is their number, where 32 bits hold it
+-- what was read are digits, and `value` is their number, held at the limit
 abbrev pub invariant-loop-byte : goal.invariant-loop-byte
 invariant-loop-byte l =
     record {
