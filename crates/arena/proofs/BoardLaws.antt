@@ -1,8 +1,8 @@
 -- The laws of a board.
-use Rattle.std.proofs.Common.{◌≡◌, ℕ, ◌+◌, ◌/◌, ◌%◌, ◌^◌, ◌<◌, true, false, ◌≢◌, List, length, get_or, take, set, sum_by, sym, refl, ap, ◌∙◌, inl, inr, arith}
+use Rattle.std.proofs.Common.{◌≡◌, ℕ, ◌+◌, ◌/◌, ◌%◌, ◌^◌, ◌<◌, true, false, ◌≢◌, min, List, length, get_or, take, set, sum_by, sym, refl, ap, ◌∙◌, inl, inr, arith}
 use lib.Bits.{bit_or}
 use lib.Count.{ones}
-use Rattle.std.proofs.lemmas.List.{get_or-set_same, get_or-set_other, set_past, get_or_past, get_or-take, length-take}
+use Rattle.std.proofs.lemmas.List.{get_or-set_same, get_or-set_other, set_past, get_or_past, get_or-take, length-take, take_all}
 use Rattle.std.proofs.Math.Seq.{take-set-lt}
 use Rattle.std.proofs.lemmas.List.Sums.{sum_by-set}
 use Rattle.std.proofs.lemmas.Bool.{cases_eq, cases_lt, eqb-false}
@@ -10,6 +10,14 @@ use Rattle.std.specs.Int.{bit_at}
 use Rattle.arena.specs.Boards.{bit_of, bit, with_bit, without_bit, reach, ones_of, LawsOf, BoardLaws}
 use Rattle.arena.proofs.Bits.{set_same, set_other, clear_same, clear_other, ones_set}
 use Rattle.arena.proofs.Lowest.{zero_bit, lowest_is}
+
+-- the words that are counted
+pub take_few : (b : List ℕ) (i : ℕ) → i ≡ min (length b) 2048 → take i b ≡ take 2048 b
+take_few b i e =
+    elim (cases_lt (length b) 2048) [
+      | inl l ↦ take_all i b (omega arith) ∙ sym (take_all 2048 b (omega arith))
+      | inr l ↦ (let d : i ≡ 2048 = omega arith in ap (λ n. take n b) d)
+    ]
 
 module _ (b : List ℕ) where
   -- the board whose word of a has become w: a bit of that word, and of any other

@@ -38,7 +38,7 @@ lowest_is b a =
     ]
 
 -- two answers that are both lowest are the same
-lowest_one : (b : List ℕ) (a : ℕ) (r s : Option ℕ) → Lowest b a r → Lowest b a s → r ≡ s
+pub lowest_one : (b : List ℕ) (a : ℕ) (r s : Option ℕ) → Lowest b a r → Lowest b a s → r ≡ s
 lowest_one b a None None p q = refl
 lowest_one b a None (Some s) p q = absurd (both_ways (bit b s) (p s q.0 q.1) q.2)
 lowest_one b a (Some r) None p q = absurd (both_ways (bit b r) (q r p.0 p.1) p.2)
@@ -57,7 +57,7 @@ lowest_found b a r h = lowest_one b a r (lowest_bit b a) h (lowest_is b a)
 -- ---- by words
 
 -- no bit from a on is set in the words below i
-abbrev ClearTo : List ℕ → ℕ → ℕ → Type 0
+abbrev pub ClearTo : List ℕ → ℕ → ℕ → Type 0
 ClearTo b a i = (k : ℕ) → a ≤ k → k < 32 * i → bit b k ≡ false
 
 -- bits of the word i, by their place in the board
@@ -65,7 +65,7 @@ in_word : (b : List ℕ) (i k : ℕ) → k / 32 ≡ i → bit b k ≡ bit_of (ge
 in_word b i k e = ap (λ j. bit_of (get_or b j 0) (k % 32)) e
 
 -- words that are 0 have no bit
-clear_words : (b : List ℕ) (a i j : ℕ) → ClearTo b a i → ((k : ℕ) → i ≤ k → k < j → get_or b k 0 ≡ 0) → ClearTo b a j
+pub clear_words : (b : List ℕ) (a i j : ℕ) → ClearTo b a i → ((k : ℕ) → i ≤ k → k < j → get_or b k 0 ≡ 0) → ClearTo b a j
 clear_words b a i j c z k l u =
     elim (cases_lt k (32 * i)) [
       | inl v ↦ c k l v
@@ -73,7 +73,7 @@ clear_words b a i j c z k l u =
     ]
 
 -- a word that is not 0, with no bit below it
-found_in_word : (b : List ℕ) (a i : ℕ) → i < min (length b) 2048 → a ≤ 32 * i → ClearTo b a i → 0 < get_or b i 0 → get_or b i 0 < 2 ^ 32
+pub found_in_word : (b : List ℕ) (a i : ℕ) → i < min (length b) 2048 → a ≤ 32 * i → ClearTo b a i → 0 < get_or b i 0 → get_or b i 0 < 2 ^ 32
     → Lowest b a (Some (i * 32 + count_trailing_zeros 32 (get_or b i 0)))
 found_in_word b a i l u c pos fits =
     let w = get_or b i 0 in
@@ -119,10 +119,10 @@ module _ (b : List ℕ) (a : ℕ) (l : a / 32 < min (length b) 2048) (fits : get
   rest_small : rest < 2 ^ 32
   rest_small = omega (arith, shr_le first (a % 32))
 
-  first_clear : rest ≡ 0 → ClearTo b a (a / 32 + 1)
+  pub first_clear : rest ≡ 0 → ClearTo b a (a / 32 + 1)
   first_clear z k p q = at_first k p q ∙ ap (λ x. eqb (bit_at x (k - a)) 1) z ∙ zero_bit (k - a)
 
-  found_at_first : 0 < rest → Lowest b a (Some (a + count_trailing_zeros 32 rest))
+  pub found_at_first : 0 < rest → Lowest b a (Some (a + count_trailing_zeros 32 rest))
   found_at_first pos =
       let t : ℕ = count_trailing_zeros 32 rest in
       let z = bit_at-trailing_zeros w32 rest pos rest_small in

@@ -1,5 +1,5 @@
 -- Searches that go up one by one.
-use Rattle.std.proofs.Common.{◌≡◌, ℕ, zero, suc, ◌+◌, ◌-◌, cond, List, map, find, is_none, Some, None, Option, refl, ap, ◌∙◌, inl, inr, arith}
+use Rattle.std.proofs.Common.{◌≡◌, ℕ, zero, suc, ◌+◌, ◌-◌, cond, List, find, is_none, Some, None, Option, refl, ap, ◌∙◌, inl, inr, arith}
 use Rattle.arena.specs.declared.segments.Segments.{Segments}
 use Rattle.format.specs.Meaning.{Meaning}
 use Rattle.arena.specs.declared.buffers.Buffer.{Buffer}
@@ -14,7 +14,7 @@ free_first None s e = refl
 free_first (Some p) s e = e
 
 -- the first free of k segments from s on
-pub free_found : (g : Segments) (k s : ℕ) → find (λ i. is_none (owner_of g i)) (map (λ i. i) (range_with_len s k)) ≡ free_among k g s
+pub free_found : (g : Segments) (k s : ℕ) → find (λ i. is_none (owner_of g i)) (range_with_len s k) ≡ free_among k g s
 free_found g zero s = refl
 free_found g (suc k) s = free_first (owner_of g s) s (free_found g k (s + 1))
 

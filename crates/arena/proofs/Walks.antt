@@ -64,7 +64,7 @@ module _ (m : Meaning) (bs : List Buffer) (ws : List ℕ) (e : ℕ) where
   stopped zero run a s = refl
   stopped (suc k) run a s = ap (runs_by (runs k) run a) s
 
-  runs_same : (k j run a : ℕ) → e - a ≤ k → e - a ≤ j → runs k run a ≡ runs j run a
+  pub runs_same : (k j run a : ℕ) → e - a ≤ k → e - a ≤ j → runs k run a ≡ runs j run a
   runs_same zero j run a p q = sym (stopped j run a (at_end a (omega arith)))
   runs_same (suc k) zero run a p q = stopped (suc k) run a (at_end a (omega arith))
   runs_same (suc k) (suc j) run a p q = go (step_at m bs ws e a) (onward a) (λ r n l. runs_same k j r n (omega arith) (omega arith))
@@ -100,18 +100,18 @@ module _ (m : Meaning) (bs : List Buffer) (ws : List ℕ) (e : ℕ) where
       ∙ find-append (fits size) (closed run a) (runs (e - n) n n)
 
   -- a step over a thing or a buffer ends a run
-  found_ended : (size run a n : ℕ) (s : Step) → (s ≡ Thing n) ⊎ (s ≡ Passed n) → Some s ≡ step_at m bs ws e a
-      → found_from size run a ≡ option_or (fitting size run a) (found_from size n n)
+  pub found_ended : (size run a n : ℕ) (s : Step) → (s ≡ Thing n) ⊎ (s ≡ Passed n) → Some s ≡ step_at m bs ws e a
+      → ((a < e) × (a < n)) × (found_from size run a ≡ option_or (fitting size run a) (found_from size n n))
   found_ended size run a n s (inl k) h =
       let o : Onward e a (Some (Thing n)) = subst (Onward e a) (sym h ∙ ap Some k) (onward a) in
-      found_else size run a n o (unrolled run a (Some (Thing n)) (ap Some (sym k) ∙ h) o.0)
+      (o, found_else size run a n o (unrolled run a (Some (Thing n)) (ap Some (sym k) ∙ h) o.0))
   found_ended size run a n s (inr k) h =
       let o : Onward e a (Some (Passed n)) = subst (Onward e a) (sym h ∙ ap Some k) (onward a) in
-      found_else size run a n o (unrolled run a (Some (Passed n)) (ap Some (sym k) ∙ h) o.0)
+      (o, found_else size run a n o (unrolled run a (Some (Passed n)) (ap Some (sym k) ∙ h) o.0))
 
   pub found_fits : (size run a n : ℕ) (s : Step) (o : Option Buffer) → (s ≡ Thing n) ⊎ (s ≡ Passed n) → Some s ≡ step_at m bs ws e a
       → o ≡ fitting size run a → found_from size run a ≡ option_or o (found_from size n n)
-  found_fits size run a n s o k h f = found_ended size run a n s k h ∙ ap (λ (o : Option Buffer). option_or o (found_from size n n)) (sym f)
+  found_fits size run a n s o k h f = (found_ended size run a n s k h).1 ∙ ap (λ (o : Option Buffer). option_or o (found_from size n n)) (sym f)
 
 -- the steps of a walk, as the loop of `run_in_row` takes them
 pub ruleset walking = (onward, found_stop, found_padding)

@@ -69,15 +69,22 @@ pub fn lowest_from(board: &[u32], from: usize) -> Option<usize>
     })
 }
 
-// How many bits are set.
-#[tactic(auto, using(crate::proofs::BoardLaws::board_laws))]
-pub fn count_ones(board: &[u32]) -> u32
-    ensures value { result ≡ ones_of board.now }
-    ensures laws { BoardLaws }
+// How many bits are set. It stands apart from `count_ones`, so that an edit of the code is refused at the code.
+fn ones(board: &[u32]) -> u32
+    ensures { result ≡ ones_of board.now }
 {
     board
         .iter()
         .take(LONGEST)
         .map(|word| word.count_ones())
         .sum()
+}
+
+// How many bits are set.
+#[tactic(auto, using(crate::proofs::BoardLaws::board_laws))]
+pub fn count_ones(board: &[u32]) -> u32
+    ensures value { result ≡ ones_of board.now }
+    ensures laws { BoardLaws }
+{
+    ones(board)
 }

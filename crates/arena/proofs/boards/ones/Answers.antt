@@ -1,7 +1,7 @@
 use Rattle.std.proofs.Common.{rules, tests, length-take, arith}
 use Rattle.std.proofs.lemmas.Iterator.{YieldsList-from_slice, YieldsList-from_take}
 use Rattle.std.proofs.lemmas.Iterator.Adapters.{fits_from_length, at_most_from_yields_List}
-use Rattle.arena.proofs.boards.count_ones.Goals as goal
+use Rattle.arena.proofs.boards.ones.Goals as goal
 
 pub sum-requires-clause-fits : goal.sum-requires-clause-fits
 sum-requires-clause-fits c =
