@@ -130,6 +130,14 @@ module _ (m : Meaning) (ws : List ℕ) where
   pub read_back : reads m ws ≢ nothing → Read m ws (m.head ws)
   read_back x = elim head_cases [ inl e ↦ absurd (x (nothing_from e)) | inr r ↦ r.1 ]
 
+  -- a head that is read takes a word at least, and lies within the words
+  pub head_inside : read_head m ws ≢ Nothing → (1 ≤ extent m (read_head m ws)) × (extent m (read_head m ws) ≤ length ws)
+  head_inside x =
+      elim head_cases [
+        | inl e ↦ absurd (x e)
+        | inr r ↦ rw r.0 ((range_extent m (m.head ws) r.1.range).0, r.1.fits)
+      ]
+
   pub span_read : reads m ws ≢ nothing → span m (reads m ws) ≡ extent m (m.head ws)
   span_read x = ap (span m) (reads_is (m.head ws) (read_back x)) ∙ span_thing m (λ s. m.slot s ws) (m.head ws)
 

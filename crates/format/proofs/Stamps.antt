@@ -1,8 +1,12 @@
 -- A header and zeros.
-use Rattle.std.specs.Prelude.{◌≡◌, ℕ, suc, ◌+◌, ◌<◌, ◌≤◌, List, [], ◌∷◌, length, slice_index, refl}
+use Rattle.std.specs.Prelude.{◌≡◌, ℕ, suc, ◌+◌, ◌<◌, ◌≤◌, List, [], ◌∷◌, length, replicate, slice_index, slice_set, refl}
 use Rattle.std.proofs.Common.{ap, arith, add-one}
 use Rattle.std.proofs.lemmas.List.{length-replicate, get_or-replicate}
 use Rattle.format.specs.Words.{stamped}
+
+pub stamped_fill : (v : ℕ) (ws : List ℕ) → slice_set (replicate (length ws) 0) 0 v ≡ stamped v ws
+stamped_fill v [] = refl
+stamped_fill v (w ∷ ws) = refl
 
 pub stamped_length : (v : ℕ) (ws : List ℕ) → length (stamped v ws) ≡ length ws
 stamped_length v [] = refl

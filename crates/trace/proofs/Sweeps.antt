@@ -44,6 +44,10 @@ pub base_inv : (S : Start) (m : List ℕ) (e a q : ℕ) → Base S m e a q → (
 base_inv S m e a q (first b l) = (l, inl refl)
 base_inv S m e a q (next b c l r) = (l, inr r)
 
+pub chain_low : (S : Start) (m : List ℕ) (e a : ℕ) → Chain S m e a → a ≤ e
+chain_low S m e a stop = omega arith
+chain_low S m e a (link b l h r) = omega arith
+
 link_real : (S : Start) (x : Thing) → Link S x → Real S.meaning x (span S.meaning x)
 link_real S x l = record { real = l.real; span = refl }
 
